@@ -1,0 +1,50 @@
+-- `negate` meets its contract: each arm of the match is a case of `negated`.
+use Prim.Native.Nat.{ℕ, _-_}
+use mathlib.Core.Path.{sym, _∙_, ap}
+use borrow.Author.Needs.{needs}
+use native.Mathlib.Omega.{arith}
+use Rattle.number.specs.declared.form.Form.the-variants.{Full, Short, Odd, Malformed}
+use Rattle.number.specs.Number.{bytes, sign, shortOf}
+use Rattle.number.specs.NegateLaws.{negate-zero, negate-as}
+use Rattle.number.proofs.negation.negate.Statement.{statement}
+use Rattle.number.proofs.negation.negate.Tie as tie
+
+returns : tie.Need-returns
+returns c = sym (negate-zero _ (cc))
+
+returns-2 : tie.Need-returns-2
+returns-2 c =
+    let x = c .before .before .before .before .before .before .args .x in
+    ap (λ (b : ℕ). bytes (x .b1) b (x .b3) (x .b4) (x .b5)) (c .wrapping-add-u8 .ensures) ∙ sym (negate-as _ (cc) Full (cc))
+
+returns-3 : tie.Need-returns-3
+returns-3 c =
+    let x = c .before .before .before .before .before .before .before .before .args .x in
+    c .short .ensures ∙ (ap (shortOf (1 - sign x)) (c .before .short-magnitude .ensures) ∙ sym (negate-as _ (cc) Short (cc)))
+
+returns-4 : tie.Need-returns-4
+returns-4 c = c .zero .ensures ∙ sym (negate-as _ (cc) Odd (cc))
+
+returns-5 : tie.Need-returns-5
+returns-5 c = sym (negate-as _ (cc) Malformed (cc))
+
+pub negate-spec : {M : Type 1} → statement M
+negate-spec =
+    tie.close
+    (tie.spec
+    (λ c κs. search needs)
+    returns
+    (λ c κs. search needs)
+    (λ c. search needs)
+    (λ c κs. search needs)
+    (λ c. search needs)
+    (λ c. search needs)
+    (λ c κs. search needs)
+    (λ c κs. search needs)
+    (λ c. search needs)
+    (λ c κs. search needs)
+    (λ c. search needs)
+    returns-2
+    returns-3
+    returns-4
+    returns-5)

@@ -1,0 +1,28 @@
+-- `re_stack` meets its contract: each arm of the match is a case law of `restacked`.
+use mathlib.Core.Path.{sym, _∙_, ap}
+use borrow.Author.Needs.{needs}
+use native.Mathlib.Omega.{arith}
+use Rattle.number.specs.declared.form.Form.the-variants.{Full, Odd, Malformed}
+use Rattle.number.specs.Restack.{fullOfShort}
+use Rattle.number.specs.RestackLaws.{restack-as, restack-short, restack-short-zero}
+use Rattle.number.proofs.restacking.re_stack.Statement.{statement}
+use Rattle.number.proofs.restacking.re_stack.Tie as tie
+
+pub re-stack-spec : {M : Type 1} → statement M
+re-stack-spec =
+    tie.close
+    (tie.spec
+    (λ c κs. search needs)
+    (λ c. search needs)
+    (λ c. search needs)
+    (λ c κs. search needs)
+    (λ c κs. search needs)
+    (λ c. c .zero .ensures ∙ sym (restack-short-zero _ (cc) (omega arith)))
+    (λ c κs. search needs)
+    (λ c. search needs)
+    (λ c κs. search needs)
+    (λ c. search needs)
+    (λ c. sym (restack-as _ Full (cc)))
+    (λ c. c .full-of-short .ensures ∙ (ap (fullOfShort _) (c .before .before .before .short-magnitude .ensures) ∙ sym (restack-short _ (cc) (omega arith))))
+    (λ c. c .zero2 .ensures ∙ sym (restack-as _ Odd (cc)))
+    (λ c. sym (restack-as _ Malformed (cc))))

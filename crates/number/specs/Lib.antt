@@ -1,0 +1,9 @@
+pub mod Number
+pub mod FormLaws
+pub mod Restack
+pub mod RestackLaws
+pub mod Negate
+pub mod NegateLaws
+pub mod Truncate
+pub mod TruncateLaws
+pub mod Double
