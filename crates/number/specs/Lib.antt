@@ -1,9 +1,15 @@
 pub mod Number
 pub mod FormLaws
+pub mod NumberLaws
+pub mod Value
+pub mod ValueLaws
 pub mod Restack
 pub mod RestackLaws
+pub mod RestackValue
 pub mod Negate
 pub mod NegateLaws
 pub mod Truncate
 pub mod TruncateLaws
+pub mod TruncateValue
 pub mod Double
+pub mod Sums

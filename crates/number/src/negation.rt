@@ -2,9 +2,9 @@
 use super::Number;
 use super::form::Form;
 use super::form::form_of;
+use super::parts::bytes;
 use super::parts::short;
 use super::parts::short_magnitude;
-use super::parts::zero;
 use super::zero_test::test_zero;
 ghost use mathlib.Core.Path.{_≡_};
 ghost use Rattle.number.specs.Negate.{negated};
@@ -17,15 +17,9 @@ pub fn negate(x: Number) -> Number
     }
     let form = form_of(x);
     match form {
-        Form::Full => Number {
-            b1: x.b1,
-            b2: std::num::wrapping_add_u8(x.b2, 128),
-            b3: x.b3,
-            b4: x.b4,
-            b5: x.b5,
-        },
+        Form::Full => bytes(x.b1, std::num::wrapping_add_u8(x.b2, 128), x.b3, x.b4, x.b5),
         Form::Short => short(1 - x.b2 / 128, short_magnitude(x)),
-        Form::Odd => zero(),
+        Form::Odd => bytes(0, 0, 0, 0, 0),
         Form::Malformed => x,
     }
 }

@@ -1,19 +1,13 @@
 // What a number is made of, taken apart and put together.
 use super::Number;
 ghost use mathlib.Core.Path.{_≡_};
-ghost use Rattle.number.specs.Number.{zeros, low, complementOf, shortMagnitude, halves, shortOf};
+ghost use Rattle.number.specs.Number.{low, complementOf, shortMagnitude, halves, shortOf};
 ghost use Rattle.number.specs.Number as spec;
 
-pub fn zero() -> Number
-    ensures { λ r. ⌜ r ≡ zeros ⌝ }
+pub fn bytes(b1: u8, b2: u8, b3: u8, b4: u8, b5: u8) -> Number
+    ensures { λ r. ⌜ r ≡ spec.bytes b1 b2 b3 b4 b5 ⌝ }
 {
-    Number {
-        b1: 0,
-        b2: 0,
-        b3: 0,
-        b4: 0,
-        b5: 0,
-    }
+    Number { b1, b2, b3, b4, b5 }
 }
 
 pub fn mantissa(x: Number) -> u64
@@ -60,13 +54,7 @@ pub fn short_magnitude(x: Number) -> u16
 pub fn short_halves(sign_byte: u8, h: u16) -> Number
     ensures { λ r. ⌜ r ≡ halves «sign_byte» h ⌝ }
 {
-    Number {
-        b1: 0,
-        b2: sign_byte,
-        b3: (h % 256) as u8,
-        b4: (h / 256) as u8,
-        b5: 0,
-    }
+    bytes(0, sign_byte, (h % 256) as u8, (h / 256) as u8, 0)
 }
 
 pub fn short(sign: u8, v: u16) -> Number

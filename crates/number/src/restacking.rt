@@ -2,9 +2,9 @@
 use super::Number;
 use super::form::Form;
 use super::form::form_of;
+use super::parts::bytes;
 use super::parts::full;
 use super::parts::short_magnitude;
-use super::parts::zero;
 ghost use mathlib.Core.Path.{_≡_};
 ghost use Rattle.number.specs.Restack.{restacked, fullOfShort};
 
@@ -25,11 +25,11 @@ pub fn re_stack(x: Number) -> Number
         Form::Short => {
             let v = short_magnitude(x);
             if v == 0 {
-                return zero();
+                return bytes(0, 0, 0, 0, 0);
             }
             full_of_short(x.b2 / 128, v)
         }
-        Form::Odd => zero(),
+        Form::Odd => bytes(0, 0, 0, 0, 0),
         Form::Malformed => x,
     }
 }

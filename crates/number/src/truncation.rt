@@ -2,10 +2,10 @@
 use super::Number;
 use super::form::Form;
 use super::form::form_of;
+use super::parts::bytes;
 use super::parts::full;
 use super::parts::mantissa;
 use super::parts::short;
-use super::parts::zero;
 ghost use mathlib.Core.Path.{_≡_};
 ghost use Prim.Native.Nat.{_<_, _≤_};
 ghost use mathlib.Core.Bool.{true};
@@ -31,20 +31,14 @@ fn truncate_full(x: Number) -> Number
     ensures { λ r. ⌜ r ≡ truncatedFull x ⌝ }
 {
     if x.b1 < 129 {
-        return zero();
+        return bytes(0, 0, 0, 0, 0);
     }
     let m = mantissa(x);
     if x.b1 < 145 {
         return short(x.b2 / 128, (m >> (160 - x.b1)) as u16);
     }
     if is_taken_65536(x) {
-        return Number {
-            b1: 0,
-            b2: 255,
-            b3: 0,
-            b4: 0,
-            b5: 0,
-        };
+        return bytes(0, 255, 0, 0, 0);
     }
     if x.b1 < 160 {
         let places = 160 - x.b1;

@@ -14,8 +14,9 @@ returns c = sym (negate-zero _ (cc))
 
 returns-2 : tie.Need-returns-2
 returns-2 c =
-    let x = c .before .before .before .before .before .before .args .x in
-    ap (λ (b : ℕ). bytes (x .b1) b (x .b3) (x .b4) (x .b5)) (c .wrapping-add-u8 .ensures) ∙ sym (negate-as _ (cc) Full (cc))
+    let x = c .before .before .before .before .before .before .before .args .x in
+    c .bytes .ensures
+    ∙ ap (λ (b : ℕ). bytes (x .b1) b (x .b3) (x .b4) (x .b5)) (c .before .wrapping-add-u8 .ensures) ∙ sym (negate-as _ (cc) Full (cc))
 
 returns-3 : tie.Need-returns-3
 returns-3 c =
@@ -23,7 +24,7 @@ returns-3 c =
     c .short .ensures ∙ (ap (shortOf (1 - sign x)) (c .before .short-magnitude .ensures) ∙ sym (negate-as _ (cc) Short (cc)))
 
 returns-4 : tie.Need-returns-4
-returns-4 c = c .zero .ensures ∙ sym (negate-as _ (cc) Odd (cc))
+returns-4 c = c .bytes2 .ensures ∙ sym (negate-as _ (cc) Odd (cc))
 
 returns-5 : tie.Need-returns-5
 returns-5 c = sym (negate-as _ (cc) Malformed (cc))
@@ -36,6 +37,7 @@ negate-spec =
     returns
     (λ c κs. search needs)
     (λ c. search needs)
+    (λ c κs. search needs)
     (λ c κs. search needs)
     (λ c. search needs)
     (λ c. search needs)

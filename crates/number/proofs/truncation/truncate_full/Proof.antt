@@ -19,7 +19,7 @@ clearing-fits : (m k : ℕ) → m < 2 ^ 32 → (m / 2 ^ k * 2 ^ k) % 2 ^ 64 ≡ 
 clearing-fits m k h = mod-eq-of-lt (lt-of-le-of-lt (div-mul-le-self m (2 ^ k)) (omega arith))
 
 returns : tie.Need-returns
-returns c = c .zero .ensures ∙ sym (truncate-below-one _ (omega arith))
+returns c = c .bytes .ensures ∙ sym (truncate-below-one _ (omega arith))
 
 cast-short-2 : tie.Need-cast-short-2
 cast-short-2 c =
@@ -34,7 +34,7 @@ returns-2 c =
     (ap (λ (m : ℕ). shortOf (sign x) (m / 2 ^ (160 - x .b1))) (m .ensures) ∙ sym (truncate-to-short _ (omega arith) (omega arith)))
 
 returns-3 : tie.Need-returns-3
-returns-3 c = sym (truncate-taken _ (omega arith) (cc))
+returns-3 c = c .bytes2 .ensures ∙ sym (truncate-taken _ (omega arith) (cc))
 
 returns-4 : tie.Need-returns-4
 returns-4 c =
@@ -61,6 +61,7 @@ truncate-full-spec =
     cast-short-2
     (λ c κs. search needs)
     returns-2
+    (λ c κs. search needs)
     (λ c κs. search needs)
     returns-3
     (λ c. search needs)

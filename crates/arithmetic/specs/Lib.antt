@@ -1,0 +1,15 @@
+pub mod Ending
+pub mod EndingLaws
+pub mod Addition
+pub mod SignedLaws
+pub mod AdditionLaws
+pub mod ShortRouteLaws
+pub mod Int
+pub mod Rounds
+pub mod RoundsLaws
+pub mod Division
+pub mod DivisionLaws
+pub mod Operand
+pub mod Demand3
+pub mod Demand3Laws
+pub mod Sums

@@ -1,0 +1,127 @@
+// Addition and subtraction, `addition` and `subtract` of the listing. A whole number with a sign is kept as its sign, 0 or 1, and its magnitude.
+use crate::answer::Answer;
+use crate::ending::ending;
+use number::Number;
+ghost use mathlib.Core.Path.{_≡_};
+ghost use Prim.Native.Nat.{_+_, _^_, _≤_, _<_};
+ghost use lib.IntN.{_+ℤ_};
+ghost use Rattle.number.specs.Value.{signed};
+ghost use Rattle.arithmetic.specs.Addition.{endedSum, alignedSum, fullRoute, shortRoute, sumOf, differenceOf};
+ghost use Rattle.arithmetic.specs.AdditionLaws.{shiftedBy, magnitudeOf};
+ghost use Rattle.arithmetic.specs.ShortRouteLaws.{carryOf};
+
+// The mantissa of a re-stacked number; a zero has mantissa 0.
+fn magnitude(x: Number) -> u64
+    ensures { λ r. ⌜ (r ≡ magnitudeOf x) × (r < 2 ^ 32) ⌝ }
+{
+    if x.b1 == 0 {
+        return 0;
+    }
+    number::mantissa(x)
+}
+
+// A mantissa moved down by some places. Halves go towards plus infinity, so the sign counts.
+fn shifted(sign: u8, m: u64, places: u8) -> u64
+    requires { ⌜ (sign < 2) × (m < 2 ^ 32) ⌝ }
+    ensures { λ r. ⌜ (r ≡ shiftedBy sign m places) × (r < 2 ^ 32) ⌝ }
+{
+    if places == 0 {
+        return m;
+    }
+    if 32 < places {
+        return 0;
+    }
+    (m + (1u64 << (places - 1)) - sign as u64) >> places
+}
+
+// The ending of a sum, which may have carried into a 33rd bit.
+fn carry_and_end(sign: u8, t: u64, e: u8) -> Answer
+    requires { ⌜ (sign < 2) × (t + 1 < 2 ^ 33) ⌝ }
+    ensures { λ r. ⌜ r ≡ endedSum (signed sign t) e ⌝ }
+{
+    if t < 4294967296 {
+        return ending(sign, t, e as u64 + 256, 0);
+    }
+    if e == 255 {
+        return Answer::TooBig;
+    }
+    ending(sign, (t + 1 - sign as u64) / 2, e as u64 + 1 + 256, 0)
+}
+
+fn add_signed(sign: u8, m: u64, other: u8, n: u64, e: u8) -> Answer
+    requires { ⌜ (sign < 2) × (m < 2 ^ 32) × (other < 2) × (n < 2 ^ 32) ⌝ }
+    ensures { λ r. ⌜ r ≡ endedSum (signed sign m +ℤ signed other n) e ⌝ }
+{
+    if sign == other {
+        return carry_and_end(sign, m + n, e);
+    }
+    if n <= m {
+        return ending(sign, m - n, e as u64 + 256, 0);
+    }
+    ending(other, n - m, e as u64 + 256, 0)
+}
+
+// Of two re-stacked numbers, the larger exponent byte first.
+fn align_and_add(x: Number, y: Number) -> Answer
+    requires { ⌜ y .b1 ≤ x .b1 ⌝ }
+    ensures { λ r. ⌜ r ≡ alignedSum x y ⌝ }
+{
+    let n = shifted(y.b2 / 128, magnitude(y), x.b1 - y.b1);
+    add_signed(x.b2 / 128, magnitude(x), y.b2 / 128, n, x.b1)
+}
+
+fn add_full(x: Number, y: Number) -> Answer
+    ensures { λ r. ⌜ r ≡ fullRoute x y ⌝ }
+{
+    let a = number::re_stack(x);
+    let b = number::re_stack(y);
+    if a.b1 < b.b1 {
+        return align_and_add(b, a);
+    }
+    align_and_add(a, b)
+}
+
+// The carry of a sum of sixteen-bit numbers, found from the wrapped sum.
+fn carry_of(sum: u16, first: u16) -> u8
+    ensures { λ r. ⌜ (r ≡ carryOf sum first) × (r ≤ 1) ⌝ }
+{
+    if sum < first {
+        return 1;
+    }
+    0
+}
+
+// The sign bytes settle the seventeenth bit: a sum fits where they and the carry make it 0 or -1.
+fn add_short(x: Number, y: Number) -> Answer
+    ensures { λ r. ⌜ r ≡ shortRoute x y ⌝ }
+{
+    let first = number::low_half(x);
+    let sum = std::num::wrapping_add_u16(first, number::low_half(y));
+    let carry = carry_of(sum, first);
+    let negatives = x.b2 / 255 + y.b2 / 255;
+    if carry == negatives {
+        return Answer::Done(number::short_halves(0, sum));
+    }
+    if carry + 1 == negatives {
+        return Answer::Done(number::short_halves(255, sum));
+    }
+    add_full(x, y)
+}
+
+pub fn addition(x: Number, y: Number) -> Answer
+    ensures { λ r. ⌜ r ≡ sumOf x y ⌝ }
+{
+    if x.b1 != 0 {
+        return add_full(x, y);
+    }
+    if y.b1 != 0 {
+        return add_full(x, y);
+    }
+    add_short(x, y)
+}
+
+pub fn subtract(x: Number, y: Number) -> Answer
+    ensures { λ r. ⌜ r ≡ differenceOf x y ⌝ }
+{
+    addition(x, number::negate(y))
+}
