@@ -12,7 +12,7 @@ use Rattle.number.specs.declared.Number.{Number}
 use Rattle.number.specs.Number.{mantissa, fullOf}
 use Rattle.number.specs.NumberLaws.{mantissa-range, mantissa-full}
 use Rattle.number.specs.Restack.{restacked}
-use Rattle.arithmetic.specs.Ending.{loose, doubled, rounded, closed, ended}
+use Rattle.arithmetic.specs.Ending.{Loose, loose, doubled, rounded, closed, ended}
 use Rattle.arithmetic.specs.EndingLaws.{closed-too-big, closed-too-big-only, closed-stored, ended-set, ended-once}
 use Rattle.arithmetic.specs.Rounds.{rounds33}
 use Rattle.arithmetic.specs.RoundsLaws.{Writes, writes-at-least, writes-below}
@@ -20,7 +20,6 @@ use Rattle.arithmetic.specs.Division.{restackedQuotient, quotientOf}
 use Rattle.arithmetic.specs.DivisionLaws.{rounds33-write, rounds33-below, full-quotient-ends, quotient-full}
 use Rattle.arithmetic.specs.Operand.{Operand, IsFull, restacked-full}
 use Rattle.arithmetic.specs.Demand3.{nearest, added, exact, R, Exception, Demand3}
-use Rattle.arithmetic.specs.declared.ending.Loose.{Loose}
 use Rattle.arithmetic.specs.declared.answer.Answer.{Answer}
 
 -- v / n rounded, where twice v and n over are c times n and a rest

@@ -5,9 +5,14 @@ use mathlib.Core.Bool.{cond}
 use Prim.Native.Nat.{ℕ, zero, suc, _+_, _*_, _-_, _^_, _/_, _%_}
 use lib.Dec.{ltb, eqb}
 use Rattle.number.specs.Number.{zeros, fullOf}
-use Rattle.arithmetic.specs.declared.ending.Loose.{Loose}
 use Rattle.arithmetic.specs.declared.answer.Answer.{Answer}
 use Rattle.arithmetic.specs.declared.answer.Answer.the-variants.{Done, TooBig}
+
+-- a magnitude whose top bit may be clear, its exponent + 256, and the rounding digits
+pub record Loose : Type 0 where
+  pub t : ℕ
+  pub e : ℕ
+  pub digits : ℕ
 
 abbrev pub loose : ℕ → ℕ → ℕ → Loose
 loose t e digits = record { t = t; e = e; digits = digits }

@@ -8,8 +8,7 @@ use borrow.Author.Tests.{lt-ltb, le-ltb, eq-eqb, ne-eqb, ltb-true}
 use lib.Dec.{ltb, eqb}
 use Rattle.number.specs.declared.Number.{Number}
 use Rattle.number.specs.Number.{zeros, fullOf}
-use Rattle.arithmetic.specs.Ending.{loose, doubled, normal, rounded, closed, ended}
-use Rattle.arithmetic.specs.declared.ending.Loose.{Loose}
+use Rattle.arithmetic.specs.Ending.{Loose, loose, doubled, normal, rounded, closed, ended}
 use Rattle.arithmetic.specs.declared.answer.Answer.{Answer}
 use Rattle.arithmetic.specs.declared.answer.Answer.the-variants.{Done, TooBig}
 

@@ -3,12 +3,12 @@ use crate::answer::Answer;
 use crate::ending::ending;
 use number::Number;
 ghost use mathlib.Core.Path.{_≡_};
-ghost use Prim.Native.Nat.{_+_, _^_, _≤_, _<_};
+ghost use Prim.Native.Nat.{_+_, _-_, _^_, _≤_, _<_};
 ghost use lib.IntN.{_+ℤ_};
 ghost use Rattle.number.specs.Value.{signed};
-ghost use Rattle.arithmetic.specs.Addition.{endedSum, alignedSum, fullRoute, shortRoute, sumOf, differenceOf};
+ghost use Rattle.arithmetic.specs.Addition.{endedSum, fullRoute, sumOf, differenceOf};
 ghost use Rattle.arithmetic.specs.AdditionLaws.{shiftedBy, magnitudeOf};
-ghost use Rattle.arithmetic.specs.ShortRouteLaws.{carryOf};
+ghost use Rattle.arithmetic.specs.ShortRouteLaws.{carryOf, wrapped, Route};
 
 // The mantissa of a re-stacked number; a zero has mantissa 0.
 fn magnitude(x: Number) -> u64
@@ -61,13 +61,13 @@ fn add_signed(sign: u8, m: u64, other: u8, n: u64, e: u8) -> Answer
     ending(other, n - m, e as u64 + 256, 0)
 }
 
-// Of two re-stacked numbers, the larger exponent byte first.
-fn align_and_add(x: Number, y: Number) -> Answer
-    requires { ⌜ y .b1 ≤ x .b1 ⌝ }
-    ensures { λ r. ⌜ r ≡ alignedSum x y ⌝ }
+// Of two signed mantissas, the one with the larger exponent byte first.
+fn align_and_add(sign: u8, m: u64, e: u8, other: u8, n: u64, f: u8) -> Answer
+    requires { ⌜ (sign < 2) × (m < 2 ^ 32) × (other < 2) × (n < 2 ^ 32) × (f ≤ e) ⌝ }
+    ensures { λ r. ⌜ r ≡ endedSum (signed sign m +ℤ signed other (shiftedBy other n (e - f))) e ⌝ }
 {
-    let n = shifted(y.b2 / 128, magnitude(y), x.b1 - y.b1);
-    add_signed(x.b2 / 128, magnitude(x), y.b2 / 128, n, x.b1)
+    let moved = shifted(other, n, e - f);
+    add_signed(sign, m, other, moved, e)
 }
 
 fn add_full(x: Number, y: Number) -> Answer
@@ -75,10 +75,12 @@ fn add_full(x: Number, y: Number) -> Answer
 {
     let a = number::re_stack(x);
     let b = number::re_stack(y);
+    let m = magnitude(a);
+    let n = magnitude(b);
     if a.b1 < b.b1 {
-        return align_and_add(b, a);
+        return align_and_add(b.b2 / 128, n, b.b1, a.b2 / 128, m, a.b1);
     }
-    align_and_add(a, b)
+    align_and_add(a.b2 / 128, m, a.b1, b.b2 / 128, n, b.b1)
 }
 
 // The carry of a sum of sixteen-bit numbers, found from the wrapped sum.
@@ -91,33 +93,39 @@ fn carry_of(sum: u16, first: u16) -> u8
     0
 }
 
-// The sign bytes settle the seventeenth bit: a sum fits where they and the carry make it 0 or -1.
-fn add_short(x: Number, y: Number) -> Answer
-    ensures { λ r. ⌜ r ≡ shortRoute x y ⌝ }
+// How a sum goes: 0 is stored short, 1 is stored short and negative, 2 takes the full route. The sign bytes settle the seventeenth bit: a sum of
+// two short numbers is stored short where they and the carry make it 0 or -1.
+fn route_of(x: Number, y: Number, sum: u16) -> u8
+    requires { ⌜ sum ≡ wrapped x y ⌝ }
+    ensures { λ r. ⌜ Route x y r ⌝ }
 {
-    let first = number::low_half(x);
-    let sum = std::num::wrapping_add_u16(first, number::low_half(y));
-    let carry = carry_of(sum, first);
+    if x.b1 != 0 {
+        return 2;
+    }
+    if y.b1 != 0 {
+        return 2;
+    }
+    let carry = carry_of(sum, number::low_half(x));
     let negatives = x.b2 / 255 + y.b2 / 255;
     if carry == negatives {
-        return Answer::Done(number::short_halves(0, sum));
+        return 0;
     }
     if carry + 1 == negatives {
-        return Answer::Done(number::short_halves(255, sum));
+        return 1;
     }
-    add_full(x, y)
+    2
 }
 
 pub fn addition(x: Number, y: Number) -> Answer
     ensures { λ r. ⌜ r ≡ sumOf x y ⌝ }
 {
-    if x.b1 != 0 {
-        return add_full(x, y);
+    let sum = std::num::wrapping_add_u16(number::low_half(x), number::low_half(y));
+    let route = route_of(x, y, sum);
+    match route {
+        0 => Answer::Done(number::short_halves(0, sum)),
+        1 => Answer::Done(number::short_halves(255, sum)),
+        _ => add_full(x, y),
     }
-    if y.b1 != 0 {
-        return add_full(x, y);
-    }
-    add_short(x, y)
 }
 
 pub fn subtract(x: Number, y: Number) -> Answer

@@ -11,39 +11,23 @@ use Rattle.arithmetic.proofs.ending.+normalise.Lts-normalise as normali
 use Rattle.arithmetic.proofs.ending.+normalise.{statement}
 use Rattle.arithmetic.proofs.ending.+normalise.Tie.{close}
 
-abbrev μ-normalise : Measures 0 normalise-kinds.ps ℕ
-μ-normalise κs a = a .1 .0
+abbrev μ-normalise : Measures 3 normalise-kinds.ps ℕ
+μ-normalise κs a = a .1 .1 .1 .0
 
-abbrev normalise-at : ℕ → In 0 normalise-kinds.ps
-normalise-at t = and 0 normalise-kinds.ps (is 0 normalise-kinds.ps μ-normalise t) normalise.Pre
+abbrev normalise-at : ℕ → In 3 normalise-kinds.ps
+normalise-at t = and 3 normalise-kinds.ps (is 3 normalise-kinds.ps μ-normalise t) normalise.Pre
 
-abbrev normalise-below : ℕ → In 0 normalise-kinds.ps
-normalise-below t = and 0 normalise-kinds.ps (falls 0 normalise-kinds.ps _<_ μ-normalise t) normalise.Pre
-
-normalise-returns :
-    (t : ℕ) →
-    normalise-lts.Need-returns (normalise-below t, normalise.Post) (normalise-at t) normalise.Post
-normalise-returns t c = (sym (normal-set _ _ (omega arith)), omega arith)
-
-normalise-returns-2 :
-    (t : ℕ) →
-    normalise-lts.Need-returns-2 (normalise-below t, normalise.Post) (normalise-at t) normalise.Post
-normalise-returns-2 t c = (sym (normal-none _ _ (omega arith)), omega arith)
-
-normalise-returns-3 :
-    (t : ℕ) →
-    normalise-lts.Need-returns-3 (normalise-below t, normalise.Post) (normalise-at t) normalise.Post
-normalise-returns-3 t c =
-    (c .normalise .ensures .0 ∙ sym (normal-again _ _ (omega arith) (omega arith)), c .normalise .ensures .1)
+abbrev normalise-below : ℕ → In 3 normalise-kinds.ps
+normalise-below t = and 3 normalise-kinds.ps (falls 3 normalise-kinds.ps _<_ μ-normalise t) normalise.Pre
 
 pub +normalise-spec : {M : Type 1} → statement M
 +normalise-spec =
     close μ-normalise λ t. normalise-lts.spec (normalise-below t, normalise.Post) (normalise-at t) normalise.Post
-    (normalise-returns t)
-    (normalise-returns-2 t)
+    (λ c. (sym (normal-set _ _ (omega arith)), omega arith))
+    (λ c. (sym (normal-none _ _ (omega arith)), omega arith))
     (λ c. omega arith)
     (λ c. omega arith)
     (λ c. omega arith)
     (λ c. omega arith)
     (λ c κs. omega arith)
-    (normalise-returns-3 t)
+    (λ c. (c .normalise .ensures .0 ∙ sym (normal-again _ _ (omega arith) (omega arith)), c .normalise .ensures .1))

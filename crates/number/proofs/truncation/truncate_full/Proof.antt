@@ -22,9 +22,7 @@ returns : tie.Need-returns
 returns c = c .bytes .ensures ∙ sym (truncate-below-one _ (omega arith))
 
 cast-short-2 : tie.Need-cast-short-2
-cast-short-2 c =
-    let k = 160 - c .before .before .before .before .before .before .before .args .x .b1 in
-    record { fits = whole-part-fits (c .before .before .before .before .mantissa .result) k (omega arith) (omega arith) }
+cast-short-2 c = record { fits = whole-part-fits _ _ (omega arith) (omega arith) }
 
 returns-2 : tie.Need-returns-2
 returns-2 c =

@@ -62,10 +62,12 @@ int-to-float-result : tie.Need-int-to-float-result
 unfolding inFloat
 int-to-float-result c = le→leb (c .before .args .m) (2 ^ 53) (omega arith)
 
+-- a pattern whose exponent field is below all ones is no NaN's
+no-nan : (n : ℕ) → n % top binary64 ≤ ones binary64 * hid binary64 → T (not (nanBits binary64 n))
+no-nan n h = subst (λ (b : Bool). T (not b)) (sym (nanBits-above binary64 n)) (le→nltb (ones binary64 * hid binary64) (n % top binary64) h)
+
 float-from-bits-result : tie.Need-float-from-bits-result
-float-from-bits-result c =
-    let n = factorBits (c .before .args .e) in
-    subst (λ (b : Bool). T (not b)) (sym (nanBits-above binary64 n)) (le→nltb (ones binary64 * hid binary64) (n % top binary64) (omega arith))
+float-from-bits-result c = no-nan _ (omega arith)
 
 returns : tie.Need-returns
 unfolding ofInt

@@ -1,0 +1,25 @@
+-- "A run checks report 1 once, even for an empty list, and refuses with nothing done and position 0. It then does the literals in turn
+-- and stops at the first refused literal, with that report, the position (literals done before it), and bench and depth as those left
+-- them. Report 0 has the list's length as position."
+use Prim.Native.Nat.{ℕ, _+_}
+use mathlib.Core.List.{List, [], _∷_}
+use lib.Dec.{eqb}
+use Rattle.calculator.specs.declared.outcome.RunOutcome.{RunOutcome}
+use Rattle.calculator.specs.Literals.{pick}
+use Rattle.calculator.specs.Reports.{either, overLimits, tooManyLiterals}
+use Rattle.calculator.specs.Operate.{operateOf}
+
+-- the literals that are left, after i of them, on the stack s at depth d
+unfoldable pub goOn : List ℕ → ℕ → List ℕ → ℕ → RunOutcome × List ℕ
+goOn [] i s d = (record { report = 0; position = i; depth = d }, s)
+goOn (l ∷ ls) i s d =
+    let o = operateOf s d l in
+    pick (eqb (o .0 .report) 0)
+    (goOn ls (i + 1) (o .1) (o .0 .depth))
+    (record { report = o .0 .report; position = i; depth = d }, s)
+
+unfoldable pub runOf : List ℕ → ℕ → List ℕ → RunOutcome × List ℕ
+runOf s d ls =
+    pick (either (overLimits s d) (tooManyLiterals ls))
+    (record { report = 1; position = 0; depth = d }, s)
+    (goOn ls 0 s d)

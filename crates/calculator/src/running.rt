@@ -1,0 +1,56 @@
+// A run: a list of literals, done in turn until one is refused.
+use crate::limits;
+use crate::operation;
+use crate::outcome::RunOutcome;
+ghost use mathlib.Core.Path.{_≡_};
+ghost use Rattle.calculator.specs.Run.{runOf};
+
+// Where a run stopped.
+struct Stop {
+    report: u8,
+    position: usize,
+}
+
+// Report 1 is checked once, even for an empty list.
+pub fn run(stack: &mut [u8], depth: usize, literals: &[u8]) -> RunOutcome
+    ensures { λ r. ⌜ runOf (now (stack .entry)) depth (now (literals .entry)) ≡ (r, now (stack .exit)) ⌝ }
+{
+    if limits::over_limits(stack, depth) {
+        return RunOutcome {
+            report: 1,
+            position: 0,
+            depth,
+        };
+    }
+    if 60000 < literals.len() {
+        return RunOutcome {
+            report: 1,
+            position: 0,
+            depth,
+        };
+    }
+    let mut current = depth;
+    let mut position = 0;
+    let stop = loop {
+        if position == literals.len() {
+            break Stop {
+                report: 0,
+                position,
+            };
+        }
+        let done = operation::step(stack, current, literals[position]);
+        if done.report != 0 {
+            break Stop {
+                report: done.report,
+                position,
+            };
+        }
+        current = done.depth;
+        position += 1;
+    };
+    RunOutcome {
+        report: stop.report,
+        position: stop.position,
+        depth: current,
+    }
+}
