@@ -1,19 +1,15 @@
 -- What the code's checks amount to in the table of reports, for each kind of operation.
-use Prim.Native.Nat.{ℕ, suc, _+_, _-_, _*_, _≤_, _<_}
-use mathlib.Core.Path.{_≡_, refl, sym, _∙_, ap}
+use Prim.Native.Nat.{ℕ, suc, _-_}
+use mathlib.Core.Path.{_≡_, sym, _∙_, ap}
 use mathlib.Core.Bool.{Bool, true, false}
 use mathlib.Core.List.{List}
-use native.Mathlib.Omega.{arith}
-use lib.ListN.{length}
 use Rattle.number.specs.declared.Number.{Number}
-use Rattle.arithmetic.specs.declared.answer.Answer.{Answer}
 use Rattle.arithmetic.specs.declared.answer.Answer.the-variants.{Done, TooBig}
-use Rattle.calculator.specs.declared.outcome.Outcome.{Outcome}
 use Rattle.calculator.specs.Slots.{putIn}
-use Rattle.calculator.specs.Literals.{operationOf, takes, leaves}
-use Rattle.calculator.specs.Reports.{either, top, lower, malformed, malformedOperand, isTooBig, tooBig, reportOf}
-use Rattle.calculator.specs.ReportLaws.{Within, Reached, report-3, report-6, report-0}
-use Rattle.calculator.specs.Operate.{stored, bytesAfter, operateOf}
+use Rattle.calculator.specs.Literals.{operationOf}
+use Rattle.calculator.specs.Reports.{top, lower, malformed, malformedOperand, isTooBig, tooBig, reportOf}
+use Rattle.calculator.specs.ReportLaws.{Within, report-3, report-6, report-0}
+use Rattle.calculator.specs.Operate.{stored, bytesAfter}
 use Rattle.calculator.specs.OperateLaws.{operate-refused, operate-done}
 use Rattle.calculator.specs.Dispatch.{ofOne, ofTwo, Ready, ReadyForOne, ReadyForTwo, Stepped}
 

@@ -5,15 +5,13 @@ use mathlib.Core.Bool.{Bool, true, false}
 use mathlib.Core.Logic.{_⊎_, inl, inr}
 use native.Mathlib.Omega.{arith}
 use lib.Dec.{eqb}
-use borrow.Author.Tests.{ne-eqb, eq-eqb}
-use Rattle.number.specs.declared.Number.{Number}
+use borrow.Author.Tests.{ne-eqb}
 use Rattle.number.specs.Restack.{restacked}
 use Rattle.number.specs.Negate.{negated}
 use Rattle.number.specs.Truncate.{truncated}
-use Rattle.arithmetic.specs.declared.answer.Answer.{Answer}
 use Rattle.arithmetic.specs.declared.answer.Answer.the-variants.{Done}
 use Rattle.arithmetic.specs.Int.{intOf}
-use Rattle.calculator.specs.Literals.{pick, Operation, exchange, delete, duplicate, one, two, unknown, Row, row, table, find, rowOf, operationOf, takes, leaves}
+use Rattle.calculator.specs.Literals.{pick, exchange, delete, duplicate, one, two, unknown, Row, row, table, find, rowOf, operationOf, takes, leaves}
 use Rattle.calculator.specs.Reports.{notInTable}
 use Rattle.calculator.specs.TableLaws.{takes-none}
 use Rattle.calculator.specs.Dispatch.{ofOne, ofTwo}

@@ -13,11 +13,12 @@ use Rattle.arithmetic.specs.Addition.{sumOf, differenceOf}
 use Rattle.arithmetic.specs.Division.{quotientOf}
 use Rattle.arithmetic.specs.Int.{intOf}
 
+-- the first where the test holds, else the second
 abbrev pub pick : {A : Type 0} → Bool → A → A → A
 pick true x y = x
 pick false x y = y
 
--- What a literal does. `one` works on the top, `two` on the lower operand, which is the first, and the top.
+-- What a literal does. `one` works on the top, `two` on the lower operand, which is the first, and the top. `unknown` is in no row.
 pub data Operation : Type 0 where
   exchange : Operation
   delete : Operation

@@ -2,7 +2,6 @@
 -- "A refusal returns its number and the old depth and changes no byte."
 use Prim.Native.Nat.{ℕ, zero, suc, _+_, _-_}
 use mathlib.Core.List.{List}
-use Rattle.number.specs.declared.Number.{Number}
 use Rattle.arithmetic.specs.declared.answer.Answer.{Answer}
 use Rattle.arithmetic.specs.declared.answer.Answer.the-variants.{Done, TooBig}
 use Rattle.calculator.specs.declared.outcome.Outcome.{Outcome}

@@ -1,6 +1,6 @@
 -- A refused operation leaves all as it was, and an accepted one leaves what the definition says.
 use Prim.Native.Nat.{ℕ, zero, suc, _+_, _-_}
-use mathlib.Core.Path.{_≡_, refl, sym, ap}
+use mathlib.Core.Path.{_≡_, sym, ap}
 use mathlib.Core.List.{List}
 use Rattle.calculator.specs.declared.outcome.Outcome.{Outcome}
 use Rattle.calculator.specs.Literals.{operationOf, takes, leaves}

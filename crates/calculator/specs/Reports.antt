@@ -14,6 +14,7 @@ use Rattle.arithmetic.specs.declared.answer.Answer.the-variants.{Done, TooBig}
 use Rattle.calculator.specs.Slots.{numberIn}
 use Rattle.calculator.specs.Literals.{pick, Operation, exchange, delete, duplicate, one, two, unknown, operationOf, takes}
 
+-- one or the other
 abbrev pub either : Bool → Bool → Bool
 either true b = true
 either false b = b
@@ -81,7 +82,7 @@ unfoldable pub isTooBig : Answer → Bool
 isTooBig TooBig = true
 isTooBig (Done n) = false
 
--- 6: "number too big"
+-- 6: "number too big". The arithmetic says which: a divisor that counts as zero, or an exponent byte above 255.
 unfoldable pub tooBig : Operation → List ℕ → ℕ → Bool
 tooBig (one f) s d = isTooBig (f (top s d))
 tooBig (two f) s d = isTooBig (f (lower s d) (top s d))
@@ -103,23 +104,27 @@ abbrev pub first : List When → ℕ
 first [] = 0
 first (w ∷ ws) = pick (w .holds) (w .number) (first ws)
 
--- the report of a literal
-unfoldable pub reportOf : List ℕ → ℕ → ℕ → ℕ
-reportOf s d l =
-    first
-    (when 1 (overLimits s d)
+-- the rows for a literal, in the order of the checks, and its report
+abbrev pub rows : List ℕ → ℕ → ℕ → List When
+rows s d l =
+    when 1 (overLimits s d)
     ∷ when 5 (notInTable (operationOf l))
     ∷ when 2 (ltb d (takes l))
     ∷ when 4 (noRoomFor (operationOf l) s d)
     ∷ when 3 (malformedOperand (operationOf l) s d)
     ∷ when 6 (tooBig (operationOf l) s d)
-    ∷ [])
+    ∷ []
 
--- the report of a push of the bytes p
-unfoldable pub pushReport : List ℕ → ℕ → List ℕ → ℕ
-pushReport s d p =
-    first
-    (when 1 (overLimits s d)
+unfoldable pub reportOf : List ℕ → ℕ → ℕ → ℕ
+reportOf s d l = first (rows s d l)
+
+-- the rows for a push of the bytes p, and its report
+abbrev pub pushRows : List ℕ → ℕ → List ℕ → List When
+pushRows s d p =
+    when 1 (overLimits s d)
     ∷ when 4 (noRoom s d)
     ∷ when 3 (notANumber p)
-    ∷ [])
+    ∷ []
+
+unfoldable pub pushReport : List ℕ → ℕ → List ℕ → ℕ
+pushReport s d p = first (pushRows s d p)

@@ -1,14 +1,14 @@
 -- The run, a law a turn: the list is at its end, the next literal is refused, or it is done.
-use Prim.Native.Nat.{ℕ, suc, _+_, _≤_, _<_}
-use mathlib.Core.Path.{_≡_, refl, sym, _∙_, ap}
+use Prim.Native.Nat.{ℕ, _+_, _≤_, _<_}
+use mathlib.Core.Path.{_≡_}
 use mathlib.Core.Bool.{true, false}
-use mathlib.Core.List.{List, [], _∷_}
+use mathlib.Core.List.{List}
 use native.Mathlib.Numerals.{add-one}
 use lib.ListN.{length, getD, drop}
 use lib.Seq.{drop-cons, drop-length}
 use borrow.Author.Tests.{lt-ltb, le-ltb, eq-eqb, ne-eqb}
 use Rattle.calculator.specs.declared.outcome.Outcome.{Outcome}
-use Rattle.calculator.specs.Reports.{either, overLimits, tooManyLiterals}
+use Rattle.calculator.specs.Reports.{overLimits, tooManyLiterals}
 use Rattle.calculator.specs.Operate.{operateOf}
 use Rattle.calculator.specs.OperateLaws.{operate-kept}
 use Rattle.calculator.specs.Run.{goOn, runOf}

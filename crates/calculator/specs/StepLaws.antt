@@ -1,13 +1,13 @@
 -- What a step has found at each of its ways out, and the case of the definition that this is.
 use Prim.Native.Nat.{ℕ, _+_, _-_, _*_, _≤_, _<_}
-use mathlib.Core.Path.{_≡_, refl, sym, _∙_, ap}
-use mathlib.Core.Bool.{true, false}
+use mathlib.Core.Path.{_≡_, sym, _∙_}
+use mathlib.Core.Bool.{false}
 use mathlib.Core.List.{List}
 use mathlib.Core.Logic.{_⊎_}
 use native.Mathlib.Omega.{arith}
 use lib.ListN.{length}
-use Rattle.calculator.specs.Literals.{exchange, delete, duplicate, operationOf, takes, leaves}
-use Rattle.calculator.specs.Reports.{notInTable, malformedOperand, tooBig, noRoomFor}
+use Rattle.calculator.specs.Literals.{exchange, duplicate, operationOf, takes, leaves}
+use Rattle.calculator.specs.Reports.{notInTable, malformedOperand, tooBig}
 use Rattle.calculator.specs.TableLaws.{takes-none, takes-some, growth, no-room, room}
 use Rattle.calculator.specs.ReportLaws.{Within, Reached, report-5, report-2, report-4}
 use Rattle.calculator.specs.Operate.{bytesAfter}

@@ -1,6 +1,6 @@
 -- A rule of the table is a test that antt computes at each of its ten rows and at the row of a literal that is not in it.
-use Prim.Native.Nat.{ℕ, suc, _+_, _-_, _*_, _≤_, _<_}
-use mathlib.Core.Path.{_≡_, refl, _∙_}
+use Prim.Native.Nat.{ℕ, _+_, _-_, _*_, _≤_, _<_}
+use mathlib.Core.Path.{_≡_, refl, sym, _∙_, ap}
 use mathlib.Core.Bool.{Bool, true, false, not}
 use mathlib.Core.List.{List, [], _∷_}
 use native.Mathlib.Omega.{arith}
@@ -40,22 +40,29 @@ pub rule : (f : Row → Bool) → T (all f table) → (l : ℕ) → T (f (row l 
 unfolding rowOf
 rule f t l u = found f l u table t
 
--- a literal past 61 is not in the table
-pub past : (l : ℕ) → 62 ≤ l → rowOf l ≡ row l unknown 0 0
+-- a literal that is none of the ten has the row of none
+pub none-of : (l : ℕ)
+    → (l ≡ 1 → ⊥) → (l ≡ 2 → ⊥) → (l ≡ 3 → ⊥) → (l ≡ 5 → ⊥) → (l ≡ 15 → ⊥)
+    → (l ≡ 27 → ⊥) → (l ≡ 39 → ⊥) → (l ≡ 49 → ⊥) → (l ≡ 58 → ⊥) → (l ≡ 61 → ⊥)
+    → rowOf l ≡ row l unknown 0 0
 unfolding rowOf
-past l h =
+none-of l n1 n2 n3 n5 n15 n27 n39 n49 n58 n61 =
     simp (
-      ne-eqb l 1 (omega arith),
-      ne-eqb l 2 (omega arith),
-      ne-eqb l 3 (omega arith),
-      ne-eqb l 5 (omega arith),
-      ne-eqb l 15 (omega arith),
-      ne-eqb l 27 (omega arith),
-      ne-eqb l 39 (omega arith),
-      ne-eqb l 49 (omega arith),
-      ne-eqb l 58 (omega arith),
-      ne-eqb l 61 (omega arith),
+      ne-eqb l 1 n1,
+      ne-eqb l 2 n2,
+      ne-eqb l 3 n3,
+      ne-eqb l 5 n5,
+      ne-eqb l 15 n15,
+      ne-eqb l 27 n27,
+      ne-eqb l 39 n39,
+      ne-eqb l 49 n49,
+      ne-eqb l 58 n58,
+      ne-eqb l 61 n61,
     )
+
+-- the counts of a literal that is k are those of k
+pub counts : {l : ℕ} (k : ℕ) → l ≡ k → (takes k ≡ takes l) × (leaves k ≡ leaves l)
+counts k h = (ap takes (sym h), ap leaves (sym h))
 
 abbrev same : Bool → Bool → Bool
 same true b = b

@@ -1,13 +1,12 @@
 -- The view, a law a case.
-use Prim.Native.Nat.{ℕ, _+_, _-_, _*_}
-use mathlib.Core.Path.{_≡_, refl, sym}
-use mathlib.Core.Bool.{Bool, true, false}
+use Prim.Native.Nat.{ℕ, _-_, _*_}
+use mathlib.Core.Path.{_≡_}
+use mathlib.Core.Bool.{true, false}
 use mathlib.Core.List.{List, []}
-use lib.Dec.{eqb}
 use lib.ListN.{take, drop}
 use borrow.Author.Tests.{eq-eqb, ne-eqb}
 use Rattle.calculator.specs.Slots.{slot}
-use Rattle.calculator.specs.Reports.{either, overLimits}
+use Rattle.calculator.specs.Reports.{overLimits}
 use Rattle.calculator.specs.View.{viewOf}
 
 module _ (s : List ℕ) (d : ℕ) where

@@ -26,14 +26,15 @@ pub fn step(stack: &mut [u8], depth: usize, literal: u8) -> Outcome
     requires { ⌜ Within (now stack) depth ⌝ }
     ensures { λ r. ⌜ Stepped (now (stack .entry)) depth literal r (now (stack .exit)) ⌝ }
 {
-    let taken = table::taken_by(literal) as usize;
+    let row = table::row_of(literal);
+    let taken = row.0 as usize;
     if taken == 0 {
         return Outcome { report: 5, depth };
     }
     if depth < taken {
         return Outcome { report: 2, depth };
     }
-    let after = depth - taken + table::left_by(literal) as usize;
+    let after = depth - taken + row.1 as usize;
     // Only a duplicate leaves more than it takes.
     if stack.len() < 5 * after {
         return Outcome { report: 4, depth };

@@ -1,7 +1,6 @@
 -- `of_two` meets its contract: each arm calls what the definition names for its literal.
-use mathlib.Core.Path.{_≡_, _∙_, sym}
 use borrow.Author.Needs.{needs}
-use borrow.Author.Tests.{eq-eqb, ne-eqb}
+use borrow.Author.Tests.{ne-eqb}
 use Rattle.calculator.specs.Dispatch.{ofTwo}
 use Rattle.calculator.proofs.compute.of_two.Statement.{statement}
 use Rattle.calculator.proofs.compute.of_two.Tie as tie

@@ -8,29 +8,36 @@ use Rattle.calculator.specs.DispatchLaws.{seen, one-malformed, one-too-b
 use Rattle.calculator.proofs.compute.one.Statement.{statement}
 use Rattle.calculator.proofs.compute.one.Tie as tie
 
+-- from where the operand has passed
+abbrev entry : tie.Else1 → tie.Start
+entry c = c .before .before .before .before .before
+
 returns : tie.Need-returns
 returns c =
     let i = c .before .before .before .before .before in
-    one-malformed _ _ (i .args .after) _ (i .pre) (seen (c .before .before .number-in .ensures) (c .before .is-malformed .ensures) (c .if1 .taken))
+    one-malformed _ _ (i .args .after) _ (i .pre)
+    (seen (c .before .before .number-in .ensures) (c .before .is-malformed .ensures) (c .if1 .taken))
 
--- the operand is read and well formed
-operand : (c : tie.Else1) → malformed (top (c .before .before .before .before .before .args .stack .now) (c .before .before .before .before .before .args .depth)) ≡ false
+operand : (c : tie.Else1) → malformed (top (entry c .args .stack .now) (entry c .args .depth)) ≡ false
 operand c = seen (c .before .before .number-in .ensures) (c .before .is-malformed .ensures) (c .if1 .left)
 
 -- what `of_one` answered is what it answers of the slot
-answer : (c : tie.After-of-one) → c .of-one .result ≡ ofOne (c .before .before .before .before .before .before .args .literal) (top (c .before .before .before .before .before .before .args .stack .now) (c .before .before .before .before .before .before .args .depth))
-answer c = c .of-one .ensures ∙ ap (ofOne (c .before .before .before .before .before .before .args .literal)) (c .before .before .before .number-in .ensures)
+answer : (c : tie.After-of-one)
+    → let a = entry (c .before) .args in c .of-one .result ≡ ofOne (a .literal) (top (a .stack .now) (a .depth))
+answer c = c .of-one .ensures ∙ ap (ofOne (entry (c .before) .args .literal)) (c .before .before .before .number-in .ensures)
 
 returns-2 : tie.Need-returns-2
 returns-2 c =
-    let i = c .before .before .before .before .before .before .before .before .before .before .before .before .before in
+    let a = c .before .before .before .before .before .before .before in
+    let i = entry (a .before) in
     rw (c .before .before .put-in .ensures)
-    (one-done _ _ (i .args .after) _ (i .pre) _ (operand (c .before .before .before .before .before .before .before .before)) (sym (answer (c .before .before .before .before .before .before .before)) ∙ c .before .before .before .before .before .answer .given .1))
+    (one-done _ _ (i .args .after) _ (i .pre) _ (operand (a .before)) (sym (answer a) ∙ c .before .before .before .before .before .answer .given .1))
 
 returns-3 : tie.Need-returns-3
 returns-3 c =
-    let i = c .before .before .before .before .before .before .before .before in
-    one-too-big _ _ (i .args .after) _ (i .pre) (operand (c .before .before .before)) (sym (answer (c .before .before)) ∙ c .enum-told .given .1)
+    let a = c .before .before in
+    let i = entry (a .before) in
+    one-too-big _ _ (i .args .after) _ (i .pre) (operand (a .before)) (sym (answer a) ∙ c .enum-told .given .1)
 
 pub one-spec : {M : Type 1} → statement M
 one-spec =

@@ -1,7 +1,5 @@
 -- `over_limits` meets its contract: `len / 5 < depth` is `len < 5 * depth`.
-use borrow.Author.Needs.{needs}
 use mathlib.Core.Path.{sym}
-use native.Mathlib.Omega.{arith}
 use Rattle.calculator.specs.ReportLaws.{over-length, quotient-test}
 use Rattle.calculator.proofs.limits.over_limits.Statement.{statement}
 use Rattle.calculator.proofs.limits.over_limits.Tie as tie

@@ -5,18 +5,20 @@ use Rattle.calculator.proofs.operation.step.Statement.{statement}
 use Rattle.calculator.proofs.operation.step.Tie as tie
 
 returns : tie.Need-returns
-returns c = step-5 _ _ _ _ (c .before .before .before .pre) (c .before .taken-by .ensures) (c .if1 .taken)
+returns c = step-5 _ _ _ _ (c .before .before .before .before .pre) (c .before .before .row-of .ensures .0) (c .if1 .taken)
 
 returns-2 : tie.Need-returns-2
-returns-2 c = step-2 _ _ _ _ (c .before .before .before .before .pre) (c .before .before .taken-by .ensures) (c .before .if1 .left) (c .if2 .taken)
+returns-2 c = step-2 _ _ _ _ (c .before .before .before .before .before .pre) (c .before .before .before .row-of .ensures .0) (c .before .if1 .left) (c .if2 .taken)
 
 returns-3 : tie.Need-returns-3
 returns-3 c =
-    step-4 _ _ _ _ (c .before .before .before .before .before .before .pre) (c .before .before .before .before .taken-by .ensures) _ (c .before .left-by .ensures) (c .before .before .before .if1 .left) (c .before .before .if2 .left) (c .if3 .taken)
+    let row = c .before .before .before .before .before .row-of .ensures in
+    step-4 _ _ _ _ (c .before .before .before .before .before .before .before .pre) (row .0) _ (row .1) (c .before .before .before .if1 .left) (c .before .before .if2 .left) (c .if3 .taken)
 
 perform-requires : tie.Need-perform-requires
 perform-requires c κs =
-    ready _ _ _ _ (c .before .before .before .before .before .before .before .pre) (c .before .before .before .before .before .taken-by .ensures) _ (c .before .before .left-by .ensures) (c .before .before .before .before .if1 .left) (c .before .before .before .if2 .left) (c .before .if3 .left)
+    let row = c .before .before .before .before .before .before .row-of .ensures in
+    ready _ _ _ _ (c .before .before .before .before .before .before .before .before .pre) (row .0) _ (row .1) (c .before .before .before .before .if1 .left) (c .before .before .before .if2 .left) (c .before .if3 .left)
 
 pub step-spec : {M : Type 1} → statement M
 step-spec =
@@ -26,7 +28,6 @@ step-spec =
     (λ c. search needs)
     returns
     returns-2
-    (λ c κs. search needs)
     (λ c. search needs)
     (λ c. search needs)
     (λ c. search needs)

@@ -1,8 +1,8 @@
 -- `view` meets its contract: within the limits the top's five bytes lie inside the slice.
 use borrow.Author.Needs.{needs}
-use Prim.Native.Nat.{_+_, _-_, _*_}
 use mathlib.Core.Path.{_≡_, sym, _∙_}
 use mathlib.Core.Bool.{false}
+use native.Mathlib.Nat.{add-sub-cancel-left}
 use native.Mathlib.Omega.{arith}
 use Rattle.calculator.specs.ReportLaws.{Within, within-of}
 use Rattle.calculator.specs.Reports.{overLimits}
@@ -32,10 +32,7 @@ part-result-end-3 : tie.Need-part-result-end-3
 part-result-end-3 c = omega (arith, fits c)
 
 returns-3 : tie.Need-returns-3
-returns-3 c =
-    let i = c .before .before .before .before .before in
-    let e : 5 * (i .args .depth - 1) + 5 - 5 * (i .args .depth - 1) ≡ 5 = omega arith in
-    rw e (sym (view-top _ _ (not-over (c .before .before)) (c .before .if2 .left)))
+returns-3 c = rw add-sub-cancel-left (sym (view-top _ _ (not-over (c .before .before)) (c .before .if2 .left)))
 
 pub view-spec : {M : Type 1} → statement M
 view-spec =
