@@ -8,12 +8,12 @@ use Rattle.arithmetic.proofs.whole.step_down.Statement.{statement}
 use Rattle.arithmetic.proofs.whole.step_down.Tie as tie
 
 returns : tie.Need-returns
-returns c = sym (step-none _ _ _ (c .before .before .before .d .given .1) (cc))
+returns c = sym (step-none _ _ _ (c .before .before .before .d .given .1) (sym (c .before .test-zero .ensures) ∙ c .if1 .taken))
 
 returns-2 : tie.Need-returns-2
 returns-2 c =
     let t = c .before .before .before .before .before .before .before .args .t in
-    c .subtract .ensures ∙ ap (differenceOf t) (c .before .short-halves .ensures) ∙ sym (step-one _ _ _ (c .before .before .before .before .before .d .given .1) (cc))
+    c .subtract .ensures ∙ ap (differenceOf t) (c .before .short-halves .ensures) ∙ sym (step-one _ _ _ (c .before .before .before .before .before .d .given .1) (sym (c .before .before .before .test-zero .ensures) ∙ c .before .before .if1 .left))
 
 pub step-down-spec : {M : Type 1} → statement M
 step-down-spec =

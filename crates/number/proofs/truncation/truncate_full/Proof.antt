@@ -32,7 +32,7 @@ returns-2 c =
     (ap (λ (m : ℕ). shortOf (sign x) (m / 2 ^ (160 - x .b1))) (m .ensures) ∙ sym (truncate-to-short _ (omega arith) (omega arith)))
 
 returns-3 : tie.Need-returns-3
-returns-3 c = c .bytes2 .ensures ∙ sym (truncate-taken _ (omega arith) (cc))
+returns-3 c = c .bytes2 .ensures ∙ sym (truncate-taken _ (omega arith) (sym (c .before .before .is-taken-65536 .ensures) ∙ c .before .if3 .taken))
 
 returns-4 : tie.Need-returns-4
 returns-4 c =
@@ -41,10 +41,10 @@ returns-4 c =
     let k = 160 - x .b1 in
     c .full .ensures ∙
     (ap (fullOf (sign x) (x .b1)) (clearing-fits (m .result) k (omega arith) ∙ ap (cleared k) (m .ensures)) ∙
-    sym (truncate-cleared _ (omega arith) (cc) (omega arith)))
+    sym (truncate-cleared _ (omega arith) (sym (c .before .before .before .before .before .before .is-taken-65536 .ensures) ∙ c .before .before .before .before .before .if3 .left) (omega arith)))
 
 returns-5 : tie.Need-returns-5
-returns-5 c = sym (truncate-whole _ (omega arith) (cc) (omega arith))
+returns-5 c = sym (truncate-whole _ (omega arith) (sym (c .before .before .before .is-taken-65536 .ensures) ∙ c .before .before .if3 .left) (omega arith))
 
 pub truncate-full-spec : {M : Type 1} → statement M
 truncate-full-spec =
