@@ -1,5 +1,5 @@
 -- Document 01, "Addition and subtraction (003)".
-use Prim.Native.Nat.{ℕ, zero, suc, _+_, _-_, _^_, max}
+use Prim.Native.Nat.{ℕ, _+_, _-_, _^_, max}
 use mathlib.Core.Bool.{Bool, cond, _&&_}
 use lib.Dec.{ltb, leb, eqb}
 use lib.IntN.{ℤ, pos, negsuc, negℤ, natAbs, _+ℤ_}

@@ -1,9 +1,9 @@
 -- Addition by sign and magnitude, which is how the code goes: a law for each way through the definitions.
-use Prim.Native.Nat.{ℕ, zero, suc, _+_, _*_, _-_, _^_, _/_, _≤_, _<_, max}
+use Prim.Native.Nat.{ℕ, suc, _+_, _-_, _^_, _/_, _≤_, _<_, max}
 use mathlib.Core.Path.{_≡_, refl, sym, _∙_, ap, ap₂}
 use mathlib.Core.Logic.{_⊎_, inl, inr}
 use mathlib.Core.Bool.{Bool, true, false, cond}
-use borrow.Author.Tests.{lt-ltb, le-ltb, le-leb, lt-leb, eq-eqb, ne-eqb, eqb-false}
+use borrow.Author.Tests.{le-leb, lt-leb, eq-eqb, ne-eqb, eqb-false}
 use native.Mathlib.Nat.{eq-zero-or-pos, max-comm, max-eq-left, two-pow-succ, div-lt-iff-lt-mul}
 use native.Mathlib.Omega.{arith}
 use lib.Dec.{ltb, eqb}
@@ -15,10 +15,10 @@ use Rattle.number.specs.Number.{sign, mantissa}
 use Rattle.number.specs.Value.{signed}
 use Rattle.number.specs.ValueLaws.{signed-zero}
 use Rattle.arithmetic.specs.declared.answer.Answer.{Answer}
-use Rattle.arithmetic.specs.declared.answer.Answer.the-variants.{Done, TooBig}
+use Rattle.arithmetic.specs.declared.answer.Answer.the-variants.{TooBig}
 use Rattle.arithmetic.specs.Ending.{ended}
 use Rattle.arithmetic.specs.EndingLaws.{ended-zero}
-use Rattle.arithmetic.specs.Addition.{negative, signedMantissa, aligned, endedWhole, carried, endedSum, alignedSum}
+use Rattle.arithmetic.specs.Addition.{signedMantissa, aligned, endedWhole, carried, endedSum, alignedSum}
 use Rattle.arithmetic.specs.SignedLaws.{natAbs-signed, negative-signed, floor-signed}
 
 -- the magnitude of a mantissa moved k places, by its sign

@@ -1,18 +1,16 @@
 -- The short route by the wrapped sum, its carry and the sign bytes, which is how the code goes.
-use Prim.Native.Nat.{ℕ, zero, suc, _+_, _*_, _-_, _^_, _/_, _%_, _≤_, _<_}
+use Prim.Native.Nat.{ℕ, suc, _+_, _*_, _-_, _^_, _/_, _%_, _≤_, _<_}
 use mathlib.Core.Path.{_≡_, refl, sym, _∙_, ap, ap₂}
-use mathlib.Core.Bool.{Bool, true, false, cond, _&&_}
+use mathlib.Core.Bool.{Bool, true, false, cond}
 use borrow.Author.Tests.{le-leb, lt-leb, eq-eqb, ne-eqb, eqb-true, eqb-false, ltb-true, ltb-false}
 use native.Mathlib.Omega.{arith}
 use lib.Dec.{ltb, eqb}
-use lib.IntN.{ℤ, pos, negsuc, negℤ, natAbs, _+ℤ_, _-ℤ_, +ℤ-comm, +ℤ-assoc}
-use lib.Signed.{leZ}
+use lib.IntN.{ℤ, pos, negsuc, negℤ, _+ℤ_, _-ℤ_, +ℤ-comm, +ℤ-assoc}
 use Rattle.number.specs.declared.Number.{Number}
-use Rattle.number.specs.Number.{low, complementOf, halves, shortOf}
+use Rattle.number.specs.Number.{low, complementOf, halves}
 use Rattle.number.specs.NumberLaws.{Bytes}
-use Rattle.number.specs.Value.{signed, shortValue}
-use Rattle.arithmetic.specs.declared.answer.Answer.{Answer}
-use Rattle.arithmetic.specs.declared.answer.Answer.the-variants.{Done, TooBig}
+use Rattle.number.specs.Value.{shortValue}
+use Rattle.arithmetic.specs.declared.answer.Answer.the-variants.{Done}
 use Rattle.arithmetic.specs.Addition.{negative, storedShort, shortSum, shortOfWhole, fullRoute, shortRoute, sumOf}
 use Rattle.arithmetic.specs.SignedLaws.{same-sign, above, below}
 

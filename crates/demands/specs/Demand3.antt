@@ -1,13 +1,12 @@
 -- Demand 3, of literal 5's own report and bytes on a stack. The record `Demand3` of crate arithmetic states its clauses over the rounds; here its
 -- answer is what literal 5 leaves: report 6, or the number in the dividend's slot.
-use Prim.Native.Nat.{ℕ, _+_, _*_, _-_, _≤_, _<_}
+use Prim.Native.Nat.{ℕ, _+_, _-_, _≤_, _<_}
 use mathlib.Core.Path.{_≡_, refl, sym, _∙_, ap, subst⁻¹}
 use mathlib.Core.Logic.{_↔_}
-use mathlib.Core.Bool.{Bool, true, false, cond}
+use mathlib.Core.Bool.{false, cond}
 use mathlib.Core.List.{List}
 use native.Mathlib.Omega.{arith}
 use lib.Dec.{eqb}
-use lib.ListN.{length}
 use borrow.Author.Tests.{eq-eqb, ne-eqb}
 use Rattle.number.specs.declared.Number.{Number}
 use Rattle.number.specs.declared.form.Form.{Form}
@@ -22,7 +21,7 @@ use Rattle.arithmetic.specs.Demand3.{added, Demand3}
 use Rattle.arithmetic.specs.Demand3Laws.{demand3}
 use Rattle.calculator.specs.declared.outcome.Outcome.{Outcome}
 use Rattle.calculator.specs.Slots.{numberIn}
-use Rattle.calculator.specs.Literals.{rowOf, operationOf, takes, two}
+use Rattle.calculator.specs.Literals.{rowOf, operationOf, takes}
 use Rattle.calculator.specs.Reports.{lower, top, notInTable, noRoomFor, isMalformed, malformed, malformedOperand, isTooBig, tooBig, reportOf}
 use Rattle.calculator.specs.ReportLaws.{Within, Reached, report-6, report-0}
 use Rattle.calculator.specs.Operate.{stored, bytesAfter, operateOf}

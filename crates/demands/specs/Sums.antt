@@ -15,7 +15,6 @@ use Rattle.arithmetic.specs.Division.{fullQuotient, restackedQuotient, quotient
 use Rattle.arithmetic.specs.Addition.{aligned, endedSum, alignedSum, fullRoute, shortRoute, sumOf, differenceOf}
 use Rattle.arithmetic.specs.Int.{intOf}
 use Rattle.calculator.specs.declared.outcome.Outcome.{Outcome}
-use Rattle.calculator.specs.declared.outcome.RunOutcome.{RunOutcome}
 use Rattle.calculator.specs.Slots.{numberIn, bytesOf, putIn}
 use Rattle.calculator.specs.Literals.{rowOf, operationOf, takes, leaves}
 use Rattle.calculator.specs.Reports.{overLimits, tooManyLiterals, notInTable, noRoom, noRoomFor, isMalformed, malformed, malformedOperand, isTooBig, tooBig, reportOf}

@@ -1,6 +1,6 @@
 -- Document 01: "the top's value as a 64-bit double, which is always exact, zero being +0". No operation on floats stands in these definitions:
 -- `round` is the double nearest to a fraction, and the law below says that nothing is rounded.
-use Prim.Native.Nat.{ℕ, suc, _+_, _*_, _^_, _<_}
+use Prim.Native.Nat.{ℕ, _+_, _*_, _^_, _<_}
 use mathlib.Core.Path.{_≡_, _∙_, ap, sym}
 use mathlib.Core.Bool.{Bool, false, cond}
 use native.Mathlib.Nat.{mul-assoc, lt-trans}

@@ -1,12 +1,10 @@
--- A law for each case of `formOf`, and for the zero test.
-use Prim.Native.Nat.{ℕ, _<_}
+-- A law for each case of `formOf`.
 use mathlib.Core.Path.{_≡_}
-use mathlib.Core.Bool.{true, false}
 use native.Mathlib.Omega.{arith}
 use borrow.Author.Tests.{lt-ltb, le-ltb, eq-eqb, ne-eqb}
 use Rattle.number.specs.declared.Number.{Number}
 use Rattle.number.specs.declared.form.Form.the-variants.{Full, Short, Odd, Malformed}
-use Rattle.number.specs.Number.{formOf, passesZeroTest}
+use Rattle.number.specs.Number.{formOf}
 
 pub form-full : (x : Number) → (x .b1 ≡ 0 → ⊥) → formOf x ≡ Full
 unfolding formOf

@@ -1,6 +1,6 @@
 -- Document 01: "Negation: a number that passes the zero test stays as it is; full has its sign bit flipped; odd becomes five zero bytes; other
 -- shorts change sign."
-use Prim.Native.Nat.{ℕ, _+_, _-_, _%_}
+use Prim.Native.Nat.{_+_, _-_, _%_}
 use mathlib.Core.Bool.{cond}
 use Rattle.number.specs.declared.Number.{Number}
 use Rattle.number.specs.declared.form.Form.{Form}

@@ -1,6 +1,5 @@
 -- Worked examples, by computation: the rows of document 01's sums that truncation alone decides, the exponent bytes 128, 129, 144, 145, 159 and
 -- 160, and the forms under re-stacking and negation.
-use Prim.Native.Nat.{ℕ}
 use mathlib.Core.Path.{_≡_, refl}
 use mathlib.Core.List.{List, [], _∷_, map}
 use Rattle.number.specs.declared.Number.{Number}

@@ -1,5 +1,5 @@
 -- A law for each case of truncation.
-use Prim.Native.Nat.{ℕ, _-_, _^_, _/_, _≤_, _<_}
+use Prim.Native.Nat.{_-_, _^_, _/_, _≤_, _<_}
 use mathlib.Core.Path.{_≡_, ap}
 use mathlib.Core.Bool.{true, false}
 use native.Mathlib.Omega.{arith}

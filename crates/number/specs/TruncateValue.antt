@@ -1,16 +1,16 @@
 -- Truncation is the whole part towards zero, away from the case that the listing takes for -65,536.
-use Prim.Native.Nat.{ℕ, zero, suc, _+_, _*_, _-_, _^_, _/_, _%_, _≤_, _<_}
+use Prim.Native.Nat.{ℕ, _+_, _*_, _-_, _^_, _/_, _≤_, _<_}
 use mathlib.Core.Path.{_≡_, refl, sym, _∙_, ap}
 use mathlib.Core.Bool.{Bool, true, false, cond}
-use borrow.Author.Tests.{lt-ltb, le-ltb, eq-eqb, ne-eqb, ltb-true, ltb-false}
+use borrow.Author.Tests.{lt-ltb, ltb-true, ltb-false}
 use native.Mathlib.Nat.{lt-of-lt-of-le, le-of-eq, le-trans, mul-assoc, mul-div-mul-right, div-eq-of-lt, mul-div-cancel, mul-le-mul-right, le-div-iff-mul-le, div-mul-le-self, lt-of-le-of-lt, one-mul}
 use native.Mathlib.Omega.{arith}
 use lib.Dec.{ltb}
-use lib.IntN.{ℤ, pos, negℤ, _*ℤ_}
+use lib.IntN.{ℤ, pos, _*ℤ_}
 use lib.Pow.{pow-add, pow-pos, pow-mono, shl-lt, shr-lt}
 use Rattle.number.specs.declared.Number.{Number}
 use Rattle.number.specs.declared.form.Form.the-variants.{Full}
-use Rattle.number.specs.Number.{formOf, sign, mantissa, fullOf, complementOf, halves, shortOf, zeros}
+use Rattle.number.specs.Number.{formOf, sign, mantissa, fullOf, shortOf, zeros}
 use Rattle.number.specs.NumberLaws.{Bytes, mantissa-full, sign-full, short-b1}
 use Rattle.number.specs.Value.{signed, shortValue, fullValue}
 use Rattle.number.specs.ValueLaws.{signed-times, signed-zero, short-of-value}

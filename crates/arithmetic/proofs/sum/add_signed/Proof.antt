@@ -1,5 +1,4 @@
 -- `add_signed` meets its contract: a sum of whole numbers by their signs.
-use Prim.Native.Nat.{_+_}
 use mathlib.Core.Path.{sym, _∙_, ap}
 use borrow.Author.Needs.{needs}
 use native.Mathlib.Omega.{arith}

@@ -2,7 +2,6 @@
 use Prim.Native.Nat.{ℕ, _+_, _%_, _^_}
 use mathlib.Core.Path.{_≡_, sym, _∙_, ap, ap₂}
 use borrow.Author.Needs.{needs}
-use native.Mathlib.Omega.{arith}
 use Rattle.number.specs.Number.{halves}
 use Rattle.arithmetic.specs.declared.answer.Answer.the-variants.{Done}
 use Rattle.arithmetic.specs.ShortRouteLaws.{wrapped}

@@ -1,5 +1,5 @@
 -- `int` meets its contract: its test is the definition's.
-use mathlib.Core.Path.{sym, _∙_, ap, ap₂}
+use mathlib.Core.Path.{_∙_, ap}
 use borrow.Author.Needs.{needs}
 use borrow.Author.Tests.{lt-ltb, le-ltb}
 use Rattle.number.specs.declared.Number.{Number}

@@ -1,7 +1,6 @@
 -- `step_down` meets its contract: the zero test says which case of `stepDown` holds.
 use mathlib.Core.Path.{sym, _∙_, ap}
 use borrow.Author.Needs.{needs}
-use Rattle.number.specs.Number.{halves}
 use Rattle.arithmetic.specs.Addition.{differenceOf}
 use Rattle.arithmetic.specs.Int.{step-none, step-one}
 use Rattle.arithmetic.proofs.whole.step_down.Statement.{statement}

@@ -3,7 +3,6 @@ use Prim.Native.Nat.{ℕ, _-_}
 use mathlib.Core.Path.{_≡_, sym, _∙_, ap}
 use mathlib.Core.Bool.{false}
 use borrow.Author.Needs.{needs}
-use native.Mathlib.Omega.{arith}
 use Rattle.number.specs.declared.form.Form.the-variants.{Full, Short, Odd, Malformed}
 use Rattle.number.specs.Number.{bytes, sign, shortOf, passesZeroTest}
 use Rattle.number.specs.NegateLaws.{negate-zero, negate-as}

@@ -1,5 +1,5 @@
 -- `full_of_short` meets its contract: at most sixteen places keep the shift within 64 bits, so that it multiplies and loses nothing.
-use Prim.Native.Nat.{ℕ, _+_, _-_}
+use Prim.Native.Nat.{_+_, _-_}
 use mathlib.Core.Path.{_∙_, ap}
 use borrow.Author.Needs.{needs}
 use native.Mathlib.Omega.{arith}

@@ -5,12 +5,11 @@ use mathlib.Core.Path.{_≡_, sym, _∙_, ap, subst}
 use mathlib.Core.Bool.{Bool, false, not}
 use borrow.Author.Needs.{needs}
 use borrow.Author.Tests.{lt-leb, ne-eqb}
-use native.Mathlib.Nat.{mul-assoc, mul-left-comm, one-mul, mul-pos}
+use native.Mathlib.Nat.{mul-assoc, mul-pos}
 use native.Mathlib.Omega.{arith}
 use lib.Dec.{T, le→leb}
 use lib.Arith.{le→nltb}
 use lib.Pow.{pow-add, pow-pos}
-use lib.IntN.{pos}
 use lib.Ieee.{Float, binary64, inFloat, nanBits, ofBits, ofFields, ofInt, odd, round, mul, ones, hid, top}
 use lib.Ieee.Back.{round-whole}
 use lib.Ieee.Bits.{nanBits-above}

@@ -1,0 +1,67 @@
+//! `rom N IMAGE [SEED]`: N random operations of the ROM's calculator, held to the reference.
+
+use second::rng::Rng;
+use second::rom::machine::{patched, Machine};
+use second::rom::{one, Found, COMPARED};
+use std::process::ExitCode;
+
+/// So many differences are printed for each literal.
+const PRINTED: u64 = 5;
+
+fn main() -> ExitCode {
+    let words: Vec<String> = std::env::args().skip(1).collect();
+    let parsed = match words.iter().map(String::as_str).collect::<Vec<_>>()[..] {
+        [count, image] => count.parse().ok().map(|count| (count, image, 1)),
+        [count, image, seed] => match (count.parse(), seed.parse()) {
+            (Ok(count), Ok(seed)) => Some((count, image, seed)),
+            _ => None,
+        },
+        _ => None,
+    };
+    let Some((count, image, seed)) = parsed else {
+        eprintln!("usage: rom N IMAGE [SEED]");
+        return ExitCode::from(2);
+    };
+    let image = std::fs::read(image).map_err(|error| error.to_string());
+    match image.and_then(patched) {
+        Ok(image) => compare(count, seed, &mut Machine::new(&image)),
+        Err(words) => {
+            eprintln!("the ROM image: {words}");
+            ExitCode::from(2)
+        }
+    }
+}
+
+fn compare(count: u64, seed: u64, machine: &mut Machine) -> ExitCode {
+    let mut rng = Rng::new(seed);
+    let (mut all_agreed, mut all_kept, mut all_differ) = (0, 0, 0);
+    for (i, (literal, name)) in COMPARED.into_iter().enumerate() {
+        let share = count / 7 + u64::from((i as u64) < count % 7);
+        let (mut agreed, mut kept, mut differ) = (0, 0, 0);
+        for _ in 0..share {
+            match one(&mut rng, machine, literal) {
+                Found::Agreed => agreed += 1,
+                Found::FifthByteKept => kept += 1,
+                Found::Differs(words) => {
+                    differ += 1;
+                    if differ <= PRINTED {
+                        println!("{name} differs: {words}");
+                    }
+                }
+            }
+        }
+        println!("{name}: {agreed} agreed, {kept} but for b5 of a short sum, {differ} differ");
+        all_agreed += agreed;
+        all_kept += kept;
+        all_differ += differ;
+    }
+    println!(
+        "{} cases agreed ({all_kept} of them but for b5 of a short sum), {all_differ} differ",
+        all_agreed + all_kept
+    );
+    if all_differ == 0 {
+        ExitCode::SUCCESS
+    } else {
+        ExitCode::FAILURE
+    }
+}

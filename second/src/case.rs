@@ -1,0 +1,58 @@
+//! One call with all it is given, and what the reference answers.
+
+use crate::{reference, Cell};
+
+#[derive(Clone, Debug, PartialEq, Eq)]
+pub enum Call {
+    Operate(u8),
+    Push(Vec<u8>),
+    Run(Vec<u8>),
+}
+
+#[derive(Clone, Debug, PartialEq, Eq)]
+pub struct Case {
+    pub call: Call,
+    pub depth: usize,
+    pub stack: Vec<u8>,
+}
+
+/// Everything that can be seen after a call. Only a run has a position.
+#[derive(Clone, Debug, PartialEq, Eq)]
+pub struct After {
+    pub report: u8,
+    pub position: Option<usize>,
+    pub depth: usize,
+    pub stack: Vec<u8>,
+    pub view: Option<usize>,
+    pub cell: Cell,
+}
+
+impl Case {
+    pub fn answer(&self) -> After {
+        let mut stack = self.stack.clone();
+        let (report, position, depth) = match &self.call {
+            Call::Operate(literal) => {
+                let o = reference::operate(&mut stack, self.depth, *literal);
+                (o.report, None, o.depth)
+            }
+            Call::Push(number) => {
+                let o = reference::push(&mut stack, self.depth, number);
+                (o.report, None, o.depth)
+            }
+            Call::Run(literals) => {
+                let o = reference::run(&mut stack, self.depth, literals);
+                (o.report, Some(o.position), o.depth)
+            }
+        };
+        let view = reference::view(&stack, depth);
+        let cell = reference::cell(report, &stack, depth);
+        After {
+            report,
+            position,
+            depth,
+            stack,
+            view,
+            cell,
+        }
+    }
+}

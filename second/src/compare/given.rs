@@ -1,0 +1,125 @@
+//! What a random call is given.
+
+use crate::draw;
+use crate::rng::Rng;
+use crate::text::field;
+use std::fmt;
+
+/// The bytes are boxed: an allocation of exactly their length, where valgrind shows a read
+/// past their end.
+pub enum Call {
+    Operate(u8),
+    Push(Box<[u8]>),
+    Run(Box<[u8]>),
+    View,
+    Cell(u8),
+}
+
+pub struct Given {
+    pub call: Call,
+    pub depth: usize,
+    pub stack: Vec<u8>,
+    /// What stands behind the pointers that a call writes through, so that a write where
+    /// none is due is seen.
+    pub old_word: usize,
+    pub old_byte: u8,
+    pub old_bits: u64,
+}
+
+impl Given {
+    pub fn draw(rng: &mut Rng) -> Given {
+        let (stack, depth) = stack(rng);
+        let call = match rng.below(20) {
+            0..=8 => Call::Operate(draw::literal(rng)),
+            9..=10 => Call::Push(pushed(rng)),
+            11..=14 => Call::Run(list(rng)),
+            15..=16 => Call::View,
+            _ if rng.one_in(4) => Call::Cell(rng.byte()),
+            _ => Call::Cell(0),
+        };
+        Given {
+            call,
+            depth,
+            stack,
+            old_word: rng.bits() as usize,
+            old_byte: rng.byte(),
+            old_bits: rng.bits(),
+        }
+    }
+}
+
+fn stack(rng: &mut Rng) -> (Vec<u8>, usize) {
+    match rng.below(400) {
+        0 => long_stack(rng),
+        1..=40 => {
+            let bytes: Vec<u8> = (0..rng.below(61)).map(|_| rng.byte()).collect();
+            let depth = draw::depth(rng, bytes.len() / 5);
+            (bytes, depth)
+        }
+        _ => {
+            let slots = match rng.below(4) {
+                0 => rng.below(13),
+                _ => 2 + rng.below(4),
+            } as usize;
+            let bytes = draw::stack(rng, slots);
+            (bytes, draw::depth(rng, slots))
+        }
+    }
+}
+
+/// About 16,000 bytes, where report 1 begins.
+fn long_stack(rng: &mut Rng) -> (Vec<u8>, usize) {
+    let len = match rng.below(3) {
+        0 => 16_000,
+        1 => 15_990 + rng.below(20),
+        _ => rng.below(16_100),
+    } as usize;
+    let mut bytes = draw::stack(rng, len / 5);
+    bytes.resize(len, 0x99);
+    let depth = draw::depth(rng, len / 5);
+    (bytes, depth)
+}
+
+fn pushed(rng: &mut Rng) -> Box<[u8]> {
+    let mut number = draw::any(rng).to_vec();
+    if rng.one_in(5) {
+        number.resize(rng.below(8) as usize, 0x2A);
+    }
+    number.into()
+}
+
+/// Mostly short lists; now and then one about 60,000, where report 1 begins.
+fn list(rng: &mut Rng) -> Box<[u8]> {
+    let count = match rng.below(2_000) {
+        0 => 59_998 + rng.below(5),
+        1 => rng.below(61_000),
+        _ => rng.below(41),
+    } as usize;
+    if rng.one_in(20) {
+        (0..count).map(|_| rng.byte()).collect()
+    } else if count > 1_000 {
+        // A drawn list of such a length would soon be refused: it copies and deletes.
+        (0..count).map(|i| [49, 27, 1, 2][i % 4]).collect()
+    } else {
+        draw::literals(rng, count).into()
+    }
+}
+
+impl fmt::Display for Given {
+    fn fmt(&self, f: &mut fmt::Formatter) -> fmt::Result {
+        let stack = field(&self.stack);
+        match &self.call {
+            Call::Operate(literal) => write!(f, "operate, literal {literal}")?,
+            Call::Push(number) => write!(f, "push of {}", field(number))?,
+            Call::Run(literals) => write!(f, "run of {}", field(literals))?,
+            Call::View => write!(f, "view")?,
+            Call::Cell(report) => write!(f, "cell, report {report}")?,
+        }
+        write!(
+            f,
+            "\ndepth {}, stack of {} bytes {stack}",
+            self.depth,
+            self.stack.len()
+        )
+    }
+}

@@ -1,0 +1,155 @@
+//! What can be seen of a call: by the reference as it should be, and of the C interface.
+
+use super::given::{Call, Given};
+use crate::text::field;
+use crate::{native, reference, Cell};
+use std::fmt;
+
+#[derive(PartialEq, Eq)]
+pub struct Seen {
+    /// The report, the view's length, or the cell's kind.
+    answer: usize,
+    depth: usize,
+    /// The position of a run, the start of a view.
+    word: usize,
+    /// The report that a cell names.
+    byte: u8,
+    /// The bits of a cell's double.
+    bits: u64,
+    stack: Vec<u8>,
+    beside_untouched: bool,
+}
+
+impl Seen {
+    fn before(given: &Given) -> Seen {
+        Seen {
+            answer: 0,
+            depth: given.depth,
+            word: given.old_word,
+            byte: given.old_byte,
+            bits: given.old_bits,
+            stack: Vec::new(),
+            beside_untouched: true,
+        }
+    }
+}
+
+pub fn reference(given: &Given) -> Seen {
+    let mut seen = Seen::before(given);
+    let mut stack = given.stack.clone();
+    match &given.call {
+        Call::Operate(literal) => {
+            let o = reference::operate(&mut stack, given.depth, *literal);
+            (seen.answer, seen.depth) = (o.report.into(), o.depth);
+        }
+        Call::Push(number) => {
+            let o = reference::push(&mut stack, given.depth, number);
+            (seen.answer, seen.depth) = (o.report.into(), o.depth);
+        }
+        Call::Run(literals) => {
+            let o = reference::run(&mut stack, given.depth, literals);
+            (seen.answer, seen.depth) = (o.report.into(), o.depth);
+            seen.word = o.position;
+        }
+        Call::View => {
+            if let Some(start) = reference::view(&stack, given.depth) {
+                (seen.answer, seen.word) = (5, start);
+            }
+        }
+        Call::Cell(report) => match reference::cell(*report, &stack, given.depth) {
+            Cell::Refused(named) => (seen.answer, seen.byte) = (native::REFUSED.into(), named),
+            Cell::Blank => seen.answer = native::BLANK.into(),
+            Cell::Odd => seen.answer = native::ODD.into(),
+            Cell::Value(bits) => (seen.answer, seen.bits) = (native::VALUE.into(), bits),
+        },
+    }
+    seen.stack = stack;
+    seen
+}
+
+const BESIDE: [u8; 16] = [0xB5; 16];
+
+/// With `guarded` the stack stands between marked bytes, which show a write outside it.
+/// Otherwise it is an allocation of its own, where valgrind shows a read outside it too.
+pub fn native(given: &Given, guarded: bool) -> Seen {
+    let mut seen = Seen::before(given);
+    if guarded {
+        let mut lent = [&BESIDE, given.stack.as_slice(), &BESIDE].concat();
+        let end = 16 + given.stack.len();
+        call(given, &mut lent[16..end], &mut seen);
+        seen.beside_untouched = lent[..16] == BESIDE && lent[end..] == BESIDE;
+        seen.stack = lent[16..end].to_vec();
+    } else {
+        let mut lent = given.stack.clone().into_boxed_slice();
+        call(given, &mut lent, &mut seen);
+        seen.stack = lent.into_vec();
+    }
+    seen
+}
+
+fn call(given: &Given, stack: &mut [u8], seen: &mut Seen) {
+    seen.answer = match &given.call {
+        Call::Operate(literal) => native::operate(stack, &mut seen.depth, *literal).into(),
+        Call::Push(number) => native::push(stack, &mut seen.depth, number).into(),
+        Call::Run(literals) => native::run(stack, &mut seen.depth, literals, &mut seen.word).into(),
+        Call::View => native::view(stack, given.depth, &mut seen.word),
+        Call::Cell(report) => {
+            let mut value = f64::from_bits(given.old_bits);
+            let kind = native::cell(*report, stack, given.depth, &mut seen.byte, &mut value);
+            seen.bits = value.to_bits();
+            kind.into()
+        }
+    };
+}
+
+impl fmt::Display for Seen {
+    fn fmt(&self, f: &mut fmt::Formatter) -> fmt::Result {
+        writeln!(
+            f,
+            "answer {}, depth {}, position or start {}, named report {}, double {:016X}",
+            self.answer, self.depth, self.word, self.byte, self.bits
+        )?;
+        write!(f, "stack {}", field(&self.stack))?;
+        if !self.beside_untouched {
+            write!(f, "\nbytes beside the stack were written")?;
+        }
+        Ok(())
+    }
+}
+
+/// How many cases of each kind there were, and how often each report was given.
+#[derive(Default)]
+pub struct Tally {
+    kinds: [u64; 5],
+    reports: [u64; 7],
+}
+
+impl Tally {
+    pub fn count(&mut self, given: &Given, expected: &Seen) {
+        let kind = match given.call {
+            Call::Operate(_) => 0,
+            Call::Push(_) => 1,
+            Call::Run(_) => 2,
+            Call::View => 3,
+            Call::Cell(_) => 4,
+        };
+        self.kinds[kind] += 1;
+        if kind < 3 {
+            self.reports[expected.answer] += 1;
+        }
+    }
+}
+
+impl fmt::Display for Tally {
+    fn fmt(&self, f: &mut fmt::Formatter) -> fmt::Result {
+        let [operate, push, run, view, cell] = self.kinds;
+        write!(
+            f,
+            "operate {operate}, push {push}, run {run}, view {view}, cell {cell}; report"
+        )?;
+        for (report, count) in self.reports.iter().enumerate() {
+            write!(f, " {report}: {count}")?;
+        }
+        Ok(())
+    }
+}

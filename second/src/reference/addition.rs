@@ -1,0 +1,53 @@
+//! Document 01, "Addition and subtraction (003)".
+
+use super::ending::ending;
+use super::number::{form, negate, pow2, re_stacked, store_short, Form, Scaled};
+use crate::Bytes;
+
+/// `None` is report 6. The operands are well formed.
+pub fn add(first: Bytes, second: Bytes) -> Option<Bytes> {
+    if let (Some(a), Some(b)) = (short_value(first), short_value(second)) {
+        if (-65_536..=65_535).contains(&(a + b)) {
+            return Some(store_short(a + b));
+        }
+    }
+    add_full(re_stacked(first), re_stacked(second))
+}
+
+pub fn subtract(first: Bytes, second: Bytes) -> Option<Bytes> {
+    add(first, negate(second))
+}
+
+/// The value on the short route, where odd stands for -65,536.
+fn short_value(b: Bytes) -> Option<i128> {
+    match form(b) {
+        Form::Short(value) => Some(value),
+        Form::Odd => Some(-65_536),
+        _ => None,
+    }
+}
+
+fn add_full(a: Scaled, b: Scaled) -> Option<Bytes> {
+    let exponent = a.exponent.max(b.exponent);
+    let sum = aligned(a, exponent) + aligned(b, exponent);
+    let (sum, exponent) = if sum.abs() >= pow2(32) {
+        (nearest(sum, 1), exponent + 1)
+    } else {
+        (sum, exponent)
+    };
+    if exponent > 255 {
+        return None;
+    }
+    ending(sum < 0, sum.abs(), 0, exponent)
+}
+
+/// The number in units of the larger exponent. Beyond 32 places |x| / 2^s is below a half,
+/// so the same rounding gives the 0 that document 01 asks for.
+fn aligned(x: Scaled, exponent: i32) -> i128 {
+    nearest(x.units, (exponent - x.exponent).min(64) as u32)
+}
+
+/// The whole number nearest to x / 2^s, halves towards plus infinity; x itself at s = 0.
+fn nearest(x: i128, s: u32) -> i128 {
+    (2 * x + pow2(s)).div_euclid(pow2(s + 1))
+}

@@ -1,0 +1,35 @@
+//! Document 01, "The ending": one exact rounding in place of doubling digit by digit.
+
+use super::number::{length, pow2, store_full, Scaled};
+use crate::{Bytes, ZERO};
+
+/// `digits` is T followed by `places` rounding digits, all as one whole number. `None` is
+/// report 6.
+///
+/// Doubling T until its top bit is set, with the digits coming in behind it, reads off the
+/// whole part of digits * 2^doublings / 2^places; adding the digit that would come next is
+/// adding a half before the whole part is taken.
+pub fn ending(negative: bool, digits: i128, places: u32, exponent: i32) -> Option<Bytes> {
+    let magnitude = digits / pow2(places);
+    if magnitude == 0 {
+        return Some(ZERO);
+    }
+    let doublings = 32 - length(magnitude);
+    let exponent = exponent - doublings as i32;
+    let sign = if negative { -1 } else { 1 };
+    match exponent {
+        256.. => None,
+        1..=255 => {
+            let twice = digits * pow2(doublings + 1) / pow2(places);
+            Some(store_full(Scaled {
+                units: sign * ((twice + 1) / 2),
+                exponent,
+            }))
+        }
+        0 => Some(store_full(Scaled {
+            units: sign * pow2(31),
+            exponent: 1,
+        })),
+        _ => Some(ZERO),
+    }
+}

@@ -1,0 +1,57 @@
+//! Document 01, "Literals": each takes numbers off the top and leaves numbers there.
+
+use super::addition::{add, subtract};
+use super::division::divide;
+use super::number::{form, negate, re_stack, Form};
+use super::truncation::{int, truncate};
+use crate::Bytes;
+
+pub const EXCHANGE: u8 = 1;
+pub const DELETE: u8 = 2;
+pub const SUBTRACT: u8 = 3;
+pub const DIVIDE: u8 = 5;
+pub const ADD: u8 = 15;
+pub const NEGATE: u8 = 27;
+pub const INT: u8 = 39;
+pub const DUPLICATE: u8 = 49;
+pub const TRUNCATE: u8 = 58;
+pub const RE_STACK: u8 = 61;
+
+pub const ALL: [u8; 10] = [
+    EXCHANGE, DELETE, SUBTRACT, DIVIDE, ADD, NEGATE, INT, DUPLICATE, TRUNCATE, RE_STACK,
+];
+
+/// How many numbers a literal takes; `None` for a byte that is no literal.
+pub fn takes(literal: u8) -> Option<usize> {
+    match literal {
+        EXCHANGE | SUBTRACT | DIVIDE | ADD => Some(2),
+        DELETE | NEGATE | INT | DUPLICATE | TRUNCATE | RE_STACK => Some(1),
+        _ => None,
+    }
+}
+
+/// Whether a literal looks at the form of what it takes.
+pub fn reads_numbers(literal: u8) -> bool {
+    !matches!(literal, EXCHANGE | DELETE | DUPLICATE)
+}
+
+pub fn malformed(b: Bytes) -> bool {
+    form(b) == Form::Malformed
+}
+
+/// What a literal leaves in place of `taken`, lowest first; `None` is report 6.
+pub fn leaves(literal: u8, taken: &[Bytes]) -> Option<Vec<Bytes>> {
+    Some(match (literal, taken) {
+        (EXCHANGE, &[first, second]) => vec![second, first],
+        (DELETE, _) => vec![],
+        (SUBTRACT, &[first, second]) => vec![subtract(first, second)?],
+        (DIVIDE, &[first, second]) => vec![divide(first, second)?],
+        (ADD, &[first, second]) => vec![add(first, second)?],
+        (NEGATE, &[x]) => vec![negate(x)],
+        (INT, &[x]) => vec![int(x)?],
+        (DUPLICATE, &[x]) => vec![x, x],
+        (TRUNCATE, &[x]) => vec![truncate(x)],
+        (RE_STACK, &[x]) => vec![re_stack(x)],
+        _ => unreachable!("literal {literal} does not take {} numbers", taken.len()),
+    })
+}

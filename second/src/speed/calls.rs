@@ -1,0 +1,145 @@
+//! The five calls of a side, all of the C interface's types.
+
+use crate::native::*;
+use crate::{plain, Cell};
+use std::slice::{from_raw_parts, from_raw_parts_mut};
+
+pub struct Calls {
+    pub operate: unsafe extern "C" fn(*mut u8, usize, *mut usize, u8) -> u8,
+    pub push: unsafe extern "C" fn(*mut u8, usize, *mut usize, *const u8, usize) -> u8,
+    pub run: unsafe extern "C" fn(*mut u8, usize, *mut usize, *const u8, usize, *mut usize) -> u8,
+    pub view: unsafe extern "C" fn(*const u8, usize, usize, *mut usize) -> usize,
+    pub cell: unsafe extern "C" fn(u8, *const u8, usize, usize, *mut u8, *mut f64) -> u8,
+}
+
+pub static OURS: Calls = Calls {
+    operate: trenailer_operate,
+    push: trenailer_push,
+    run: trenailer_run,
+    view: trenailer_view,
+    cell: trenailer_cell,
+};
+
+pub static PLAIN: Calls = Calls {
+    operate: plain_operate,
+    push: plain_push,
+    run: plain_run,
+    view: plain_view,
+    cell: plain_cell,
+};
+
+pub static EMPTY: Calls = Calls {
+    operate: empty_operate,
+    push: empty_push,
+    run: empty_run,
+    view: empty_view,
+    cell: empty_cell,
+};
+
+// SAFETY of what follows: as for the C interface, every pointer is lent for the call with
+// its length, and buffers do not overlap.
+
+unsafe extern "C" fn plain_operate(s: *mut u8, len: usize, depth: *mut usize, literal: u8) -> u8 {
+    let outcome = plain::operate(from_raw_parts_mut(s, len), *depth, literal);
+    *depth = outcome.depth;
+    outcome.report
+}
+
+unsafe extern "C" fn plain_push(
+    s: *mut u8,
+    len: usize,
+    depth: *mut usize,
+    number: *const u8,
+    number_len: usize,
+) -> u8 {
+    let number = from_raw_parts(number, number_len);
+    let outcome = plain::push(from_raw_parts_mut(s, len), *depth, number);
+    *depth = outcome.depth;
+    outcome.report
+}
+
+unsafe extern "C" fn plain_run(
+    s: *mut u8,
+    len: usize,
+    depth: *mut usize,
+    literals: *const u8,
+    literals_len: usize,
+    position: *mut usize,
+) -> u8 {
+    let literals = from_raw_parts(literals, literals_len);
+    let outcome = plain::run(from_raw_parts_mut(s, len), *depth, literals);
+    *depth = outcome.depth;
+    *position = outcome.position;
+    outcome.report
+}
+
+unsafe extern "C" fn plain_view(
+    s: *const u8,
+    len: usize,
+    depth: usize,
+    start: *mut usize,
+) -> usize {
+    match plain::view(from_raw_parts(s, len), depth) {
+        Some(at) => {
+            *start = at;
+            5
+        }
+        None => 0,
+    }
+}
+
+unsafe extern "C" fn plain_cell(
+    report: u8,
+    s: *const u8,
+    len: usize,
+    depth: usize,
+    refused: *mut u8,
+    value: *mut f64,
+) -> u8 {
+    match plain::cell(report, from_raw_parts(s, len), depth) {
+        Cell::Refused(named) => {
+            *refused = named;
+            REFUSED
+        }
+        Cell::Blank => BLANK,
+        Cell::Odd => ODD,
+        Cell::Value(bits) => {
+            *value = f64::from_bits(bits);
+            VALUE
+        }
+    }
+}
+
+unsafe extern "C" fn empty_operate(_: *mut u8, _: usize, _: *mut usize, _: u8) -> u8 {
+    0
+}
+
+unsafe extern "C" fn empty_push(_: *mut u8, _: usize, _: *mut usize, _: *const u8, _: usize) -> u8 {
+    0
+}
+
+unsafe extern "C" fn empty_run(
+    _: *mut u8,
+    _: usize,
+    _: *mut usize,
+    _: *const u8,
+    _: usize,
+    _: *mut usize,
+) -> u8 {
+    0
+}
+
+unsafe extern "C" fn empty_view(_: *const u8, _: usize, _: usize, _: *mut usize) -> usize {
+    0
+}
+
+unsafe extern "C" fn empty_cell(
+    _: u8,
+    _: *const u8,
+    _: usize,
+    _: usize,
+    _: *mut u8,
+    _: *mut f64,
+) -> u8 {
+    0
+}

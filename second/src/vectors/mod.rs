@@ -1,0 +1,122 @@
+//! The cases of crates/vectors: groups that each have a reason, in a fixed order.
+
+mod addition;
+mod division;
+mod one_number;
+mod paper;
+mod random;
+mod reports;
+mod runs;
+
+use crate::case::{Call, Case};
+use crate::draw::{number, short};
+use crate::{text, Bytes};
+
+/// Cases in order, with the reasons as comment lines between them.
+#[derive(Default)]
+pub struct Vectors {
+    pub stdin: String,
+    pub stdout: String,
+    pub cases: usize,
+}
+
+const HEADER: &str = "\
+# Cases for the calculator, made by second/vectors. A line is KIND DEPTH STACK BYTES:
+# o operate, p push, r run; bytes in hex, +N for N zero bytes more, - for none.
+";
+
+impl Vectors {
+    fn reason(&mut self, words: &str) {
+        self.stdin.push_str(&format!("\n# {words}\n"));
+    }
+
+    fn case(&mut self, case: Case) {
+        self.stdin.push_str(&text::case_line(&case));
+        self.stdin.push('\n');
+        self.stdout.push_str(&text::answer_line(&case.answer()));
+        self.stdout.push('\n');
+        self.cases += 1;
+    }
+
+    /// One literal on these operands, with the neighbours changing from case to case.
+    fn operate(&mut self, literal: u8, operands: &[Bytes]) {
+        let (stack, depth) = self.among_neighbours(operands);
+        self.case(Case {
+            call: Call::Operate(literal),
+            depth,
+            stack,
+        });
+    }
+
+    /// The operands on top, with or without a slot below, a slot above and stray bytes, so
+    /// that a byte wrongly written or read is seen.
+    fn among_neighbours(&self, operands: &[Bytes]) -> (Vec<u8>, usize) {
+        let n = self.cases as u32;
+        let mark = n.wrapping_mul(0x9E37_79B1) | 0x0101_0101;
+        let mut stack = Vec::new();
+        if n % 3 == 1 {
+            stack.extend(number(0x5A, mark));
+        }
+        for operand in operands {
+            stack.extend(operand);
+        }
+        let depth = stack.len() / 5;
+        if n % 4 != 1 {
+            stack.extend(number(0xA5, mark.rotate_left(13)));
+        }
+        stack.extend(&mark.to_be_bytes()[..(n % 5) as usize]);
+        (stack, depth)
+    }
+}
+
+/// Numbers at the edges of the rules: every form, each fifth byte that matters.
+fn edge_numbers() -> Vec<Bytes> {
+    let mut all = vec![
+        [0, 0, 0, 0, 0],
+        [0, 0, 0, 0, 0x5A],
+        [0, 0xFF, 0, 0, 0],
+        [0, 0xFF, 0, 0, 0xA5],
+    ];
+    for value in [1, 2, 255, 256, 32_768, 65_535] {
+        all.push(short(value, 0));
+        all.push(short(-value, 0x33));
+    }
+    for (exponent, word) in [
+        (0x01, 0x0000_0000),
+        (0x01, 0x7FFF_FFFF),
+        (0x20, 0x4000_0000),
+        (0x7F, 0x7FFF_FFFF),
+        (0x80, 0x0000_0000),
+        (0x80, 0x7FFF_FFFF),
+        (0x81, 0x0000_0000),
+        (0x81, 0x0000_0001),
+        (0x90, 0x7FFF_8000),
+        (0x91, 0x0000_0000),
+        (0x91, 0x0000_8000),
+        (0x9F, 0x7FFF_FFFF),
+        (0xA0, 0x0000_0001),
+        (0xA1, 0x2AAA_AAAA),
+        (0xFF, 0x0000_0000),
+        (0xFF, 0x7FFF_FFFF),
+    ] {
+        all.push(number(exponent, word));
+        all.push(number(exponent, word | 0x8000_0000));
+    }
+    all
+}
+
+/// All cases. The paper's own answers are asserted on the way.
+pub fn all() -> Vectors {
+    let mut v = Vectors {
+        stdin: HEADER.to_string(),
+        ..Vectors::default()
+    };
+    paper::cases(&mut v);
+    one_number::cases(&mut v);
+    addition::cases(&mut v);
+    division::cases(&mut v);
+    reports::cases(&mut v);
+    runs::cases(&mut v);
+    random::cases(&mut v);
+    v
+}
