@@ -1,6 +1,6 @@
 -- Addition by sign and magnitude, which is how the code goes: a law for each way through the definitions.
 use Prim.Native.Nat.{ℕ, suc, _+_, _-_, _^_, _/_, _≤_, _<_, max}
-use mathlib.Core.Path.{_≡_, refl, sym, _∙_, ap, ap₂}
+use mathlib.Core.Path.{_≡_, refl, sym, _∙_, ap, ap₂, subst₂}
 use mathlib.Core.Logic.{_⊎_, inl, inr}
 use mathlib.Core.Bool.{Bool, true, false, cond}
 use borrow.Author.Tests.{le-leb, lt-leb, eq-eqb, ne-eqb, eqb-false}
@@ -14,11 +14,17 @@ use Rattle.number.specs.declared.Number.{Number}
 use Rattle.number.specs.Number.{sign, mantissa}
 use Rattle.number.specs.Value.{signed}
 use Rattle.number.specs.ValueLaws.{signed-zero}
+use Rattle.number.specs.declared.unpacking.Unpacked.{Unpacked}
+use Rattle.number.specs.NumberLaws.{Bytes, mantissa-range}
+use Rattle.number.specs.Restack.{restacked}
+use Rattle.number.specs.RestackValue.{restacked-bytes}
+use Rattle.number.specs.Unpack.{magnitudeOf, unpackedOf}
+use Rattle.arithmetic.specs.declared.sum.Pair.{Pair}
 use Rattle.arithmetic.specs.declared.answer.Answer.{Answer}
 use Rattle.arithmetic.specs.declared.answer.Answer.the-variants.{TooBig}
 use Rattle.arithmetic.specs.Ending.{ended}
 use Rattle.arithmetic.specs.EndingLaws.{ended-zero}
-use Rattle.arithmetic.specs.Addition.{signedMantissa, aligned, endedWhole, carried, endedSum, alignedSum}
+use Rattle.arithmetic.specs.Addition.{signedMantissa, aligned, endedWhole, carried, endedSum, alignedSum, fullRoute}
 use Rattle.arithmetic.specs.SignedLaws.{natAbs-signed, negative-signed, floor-signed}
 
 -- the magnitude of a mantissa moved k places, by its sign
@@ -42,10 +48,6 @@ half k h g =
 
 pub shifted-lt : (s m k : ℕ) → m < 2 ^ 32 → 0 < k → k ≤ 32 → (m + 2 ^ (k - 1) - s) / 2 ^ k < 2 ^ 32
 shifted-lt s m k h g l = let p = half k g l in div-lt-iff-lt-mul (pow-pos k) .1 (omega (arith, p .twice, p .least))
-
--- the magnitude of a re-stacked number's mantissa
-abbrev pub magnitudeOf : Number → ℕ
-magnitudeOf y = cond (eqb (y .b1) 0) 0 (mantissa y)
 
 pub aligned-signed : (s m k : ℕ) → s < 2 → aligned k (signed s m) ≡ signed s (shiftedBy s m k)
 unfolding aligned
@@ -123,3 +125,60 @@ aligned-first x y h g k =
     let second : aligned (x .b1 - y .b1) (signedMantissa y) ≡ signed (sign y) (shiftedBy (sign y) (magnitudeOf y) (x .b1 - y .b1)) =
     ap (aligned (x .b1 - y .b1)) (mantissa-signed y) ∙ aligned-signed (sign y) (magnitudeOf y) (x .b1 - y .b1) k in
     ap at (max-eq-left h) ∙ ap₂ (λ (a b : ℤ). endedSum (a +ℤ b) (x .b1)) first second
+
+-- The parts of two numbers, the larger exponent byte first: their sum is the full route's, in either order.
+pub record Ordered (x y : Number) (p : Pair) : Type 0 where
+  pub sign< : p .sign < 2
+  pub m< : p .m < 2 ^ 32
+  pub other< : p .other < 2
+  pub n< : p .n < 2 ^ 32
+  pub order : p .f ≤ p .e
+  pub sums : endedSum (signed (p .sign) (p .m) +ℤ signed (p .other) (shiftedBy (p .other) (p .n) (p .e - p .f))) (p .e) ≡ fullRoute x y
+
+abbrev pair : Unpacked → Unpacked → Pair
+pair a b = record { sign = a .sign; m = a .m; e = a .e; other = b .sign; n = b .m; f = b .e }
+
+-- what is unpacked of bytes
+unpacked-range : (x : Number) → Bytes x → (unpackedOf x .sign < 2) × (unpackedOf x .m < 2 ^ 32)
+unfolding unpackedOf
+unpacked-range x b =
+    let r = restacked-bytes x b in
+    (omega arith, go (eqb (restacked x .b1) 0))
+  where
+    go : (t : Bool) → cond t 0 (mantissa (restacked x)) < 2 ^ 32
+    go true = omega arith
+    go false = mantissa-range (restacked x) (restacked-bytes x b) .1
+
+module _ (x y : Number) (bx : Bytes x) (by : Bytes y) where
+  -- the first's exponent byte is no smaller
+  pub in-order : unpackedOf y .e ≤ unpackedOf x .e → Ordered x y (pair (unpackedOf x) (unpackedOf y))
+  unfolding unpackedOf fullRoute
+  in-order o =
+      let r = unpacked-range x bx in
+      let t = unpacked-range y by in
+      record {
+        sign< = r .0;
+        m< = r .1;
+        other< = t .0;
+        n< = t .1;
+        order = o;
+        sums = sym (aligned-first (restacked x) (restacked y) o (r .0) (t .0));
+      }
+
+-- the order of the two does not matter
+pub other-order : (x y : Number) (p : Pair) → Ordered x y p → Ordered y x p
+unfolding fullRoute
+other-order x y p o =
+    record {
+      sign< = o .sign<;
+      m< = o .m<;
+      other< = o .other<;
+      n< = o .n<;
+      order = o .order;
+      sums = o .sums ∙ aligned-comm (restacked x) (restacked y);
+    }
+
+-- of parts that equal those
+pub of-parts : (x y : Number) (a b : Unpacked) → a ≡ unpackedOf x → b ≡ unpackedOf y → Bytes x → Bytes y → b .e ≤ a .e → Ordered x y (pair a b)
+of-parts x y a b f g bx by o =
+    subst₂ (λ (u v : Unpacked). v .e ≤ u .e → Ordered x y (pair u v)) (sym f) (sym g) (in-order x y bx by) o

@@ -41,7 +41,7 @@ fn close(sign: u8, t: u64, e: u64, digits: u64) -> Answer
 }
 
 // 31 doublings take no e that is handed over below -256. Most operations hand over a t that needs none.
-pub fn ending(sign: u8, t: u64, e: u64, digits: u64) -> Answer
+pub(crate) fn ending(sign: u8, t: u64, e: u64, digits: u64) -> Answer
     requires { ⌜ (t < 2 ^ 32) × (31 ≤ e) ⌝ }
     ensures { λ r. ⌜ r ≡ ended sign t e digits ⌝ }
 {

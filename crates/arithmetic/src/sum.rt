@@ -7,18 +7,8 @@ ghost use Prim.Native.Nat.{_+_, _-_, _^_, _≤_, _<_};
 ghost use lib.IntN.{_+ℤ_};
 ghost use Rattle.number.specs.Value.{signed};
 ghost use Rattle.arithmetic.specs.Addition.{endedSum, fullRoute, sumOf, differenceOf};
-ghost use Rattle.arithmetic.specs.AdditionLaws.{shiftedBy, magnitudeOf};
+ghost use Rattle.arithmetic.specs.AdditionLaws.{shiftedBy, Ordered};
 ghost use Rattle.arithmetic.specs.ShortRouteLaws.{carryOf, wrapped, Route};
-
-// The mantissa of a re-stacked number; a zero has mantissa 0.
-fn magnitude(x: Number) -> u64
-    ensures { λ r. ⌜ (r ≡ magnitudeOf x) × (r < 2 ^ 32) ⌝ }
-{
-    if x.b1 == 0 {
-        return 0;
-    }
-    number::mantissa(x)
-}
 
 // A mantissa moved down by some places. Halves go towards plus infinity, so the sign counts.
 fn shifted(sign: u8, m: u64, places: u8) -> u64
@@ -70,17 +60,46 @@ fn align_and_add(sign: u8, m: u64, e: u8, other: u8, n: u64, f: u8) -> Answer
     add_signed(sign, m, other, moved, e)
 }
 
+// Two signed mantissas, the one with the larger exponent byte first.
+struct Pair {
+    sign: u8,
+    m: u64,
+    e: u8,
+    other: u8,
+    n: u64,
+    f: u8,
+}
+
+fn in_order(x: Number, y: Number) -> Pair
+    ensures { λ r. ⌜ Ordered x y r ⌝ }
+{
+    let a = number::unpack(x);
+    let b = number::unpack(y);
+    if a.e < b.e {
+        return Pair {
+            sign: b.sign,
+            m: b.m,
+            e: b.e,
+            other: a.sign,
+            n: a.m,
+            f: a.e,
+        };
+    }
+    Pair {
+        sign: a.sign,
+        m: a.m,
+        e: a.e,
+        other: b.sign,
+        n: b.m,
+        f: b.e,
+    }
+}
+
 fn add_full(x: Number, y: Number) -> Answer
     ensures { λ r. ⌜ r ≡ fullRoute x y ⌝ }
 {
-    let a = number::re_stack(x);
-    let b = number::re_stack(y);
-    let m = magnitude(a);
-    let n = magnitude(b);
-    if a.b1 < b.b1 {
-        return align_and_add(b.b2 / 128, n, b.b1, a.b2 / 128, m, a.b1);
-    }
-    align_and_add(a.b2 / 128, m, a.b1, b.b2 / 128, n, b.b1)
+    let p = in_order(x, y);
+    align_and_add(p.sign, p.m, p.e, p.other, p.n, p.f)
 }
 
 // The carry of a sum of sixteen-bit numbers, found from the wrapped sum.

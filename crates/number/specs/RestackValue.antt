@@ -25,6 +25,8 @@ pub record Stands (s v : ℕ) (y : Number) : Type 0 where
   pub low-exponent : 129 ≤ y .b1
   pub high-exponent : y .b1 ≤ 144
   pub worth : mantissa y * 2 ^ y .b1 ≡ v * 2 ^ 160
+  pub exact : mantissa y ≡ v * 2 ^ (16 + leadingZeros 16 v)
+  pub exponent : y .b1 ≡ 144 - leadingZeros 16 v
 
 pub full-of-short : (s v : ℕ) → s < 2 → 0 < v → v < 2 ^ 16 → Stands s v (fullOfShort s v)
 unfolding fullOfShort
@@ -45,6 +47,8 @@ full-of-short s v hs h g =
       most = subst (λ (k : ℕ). k < 2 ^ 32) (sym same) hi;
       low-exponent = omega (arith, t .1);
       high-exponent = omega arith;
+      exact = same;
+      exponent = refl;
       worth =
           ap (λ (k : ℕ). k * 2 ^ (144 - z)) same
           ∙ mul-assoc v (2 ^ (16 + z)) (2 ^ (144 - z))

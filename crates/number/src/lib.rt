@@ -5,6 +5,7 @@ mod negation;
 mod parts;
 mod restacking;
 mod truncation;
+mod unpacking;
 mod value;
 mod zero_test;
 
@@ -17,6 +18,8 @@ pub use parts::mantissa;
 pub use parts::short_halves;
 pub use restacking::re_stack;
 pub use truncation::truncate;
+pub use unpacking::Unpacked;
+pub use unpacking::unpack;
 pub use value::double;
 pub use zero_test::test_zero;
 
