@@ -1,6 +1,6 @@
 -- A re-stacked number's parts: "a zero has mantissa 0 and exponent byte 0".
-use Prim.Native.Nat.{ℕ, _+_, _*_, _-_, _^_, _<_}
-use mathlib.Core.Path.{_≡_, refl, sym, _∙_, ap}
+use Prim.Native.Nat.{ℕ, _+_, _*_, _-_, _^_}
+use mathlib.Core.Path.{_≡_, _∙_, ap}
 use mathlib.Core.Bool.{cond}
 use borrow.Author.Tests.{eq-eqb, ne-eqb}
 use native.Mathlib.Omega.{arith}
@@ -8,7 +8,6 @@ use lib.Dec.{eqb}
 use lib.Count.{leadingZeros}
 use Rattle.number.specs.declared.Number.{Number}
 use Rattle.number.specs.declared.unpacking.Unpacked.{Unpacked}
-use Rattle.number.specs.declared.form.Form.{Form}
 use Rattle.number.specs.declared.form.Form.the-variants.{Full, Short, Odd, Malformed}
 use Rattle.number.specs.Number.{formOf, sign, mantissa, shortMagnitude}
 use Rattle.number.specs.NumberLaws.{Bytes, form-bytes, short-magnitude-lt}

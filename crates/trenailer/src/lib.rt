@@ -1,0 +1,82 @@
+// The calculator for programs in other languages: include/trenailer.h declares these five functions. A slice passes as a pointer and a
+// length, and what a function answers beside its result goes out through a pointer.
+use calculator::Cell;
+ghost use mathlib.Core.Path.{_≡_};
+ghost use Rattle.calculator.specs.Operate.{operateOf, pushOf};
+ghost use Rattle.calculator.specs.Run.{runOf};
+ghost use Rattle.calculator.specs.Cell.{cellOf};
+ghost use Rattle.trenailer.specs.Told.{outcome, runOutcome, Part, toldOf};
+
+#[no_mangle]
+pub extern "C" fn trenailer_operate(stack: &mut [u8], depth: &mut usize, literal: u8) -> u8
+    ensures { λ r. ⌜ operateOf (now (stack .entry)) (now (depth .entry)) literal ≡ (outcome r (now (depth .exit)), now (stack .exit)) ⌝ }
+{
+    let done = calculator::operate(stack, *depth, literal);
+    *depth = done.depth;
+    done.report
+}
+
+#[no_mangle]
+pub extern "C" fn trenailer_push(stack: &mut [u8], depth: &mut usize, number: &[u8]) -> u8
+    ensures { λ r. ⌜ pushOf (now (stack .entry)) (now (depth .entry)) (now (number .entry)) ≡ (outcome r (now (depth .exit)), now (stack .exit)) ⌝ }
+{
+    let done = calculator::push(stack, *depth, number);
+    *depth = done.depth;
+    done.report
+}
+
+#[no_mangle]
+pub extern "C" fn trenailer_run(
+    stack: &mut [u8],
+    depth: &mut usize,
+    literals: &[u8],
+    position: &mut usize,
+) -> u8
+    ensures { λ r. ⌜ runOf (now (stack .entry)) (now (depth .entry)) (now (literals .entry))
+        ≡ (runOutcome r (now (position .exit)) (now (depth .exit)), now (stack .exit)) ⌝ }
+{
+    let done = calculator::run(stack, *depth, literals);
+    *depth = done.depth;
+    *position = done.position;
+    done.report
+}
+
+// The view is handed over as its place in the stack.
+#[no_mangle]
+pub extern "C" fn trenailer_view(stack: &[u8], depth: usize, start: &mut usize) -> usize
+    ensures { λ r. ⌜ Part (now (stack .entry)) depth (now (start .entry)) r (now (start .exit)) ⌝ }
+{
+    let seen = calculator::view(stack, depth);
+    if seen.len() == 0 {
+        return 0;
+    }
+    *start = 5 * (depth - 1);
+    5
+}
+
+// 0 refused, 1 blank, 2 odd, 3 a value. What a case does not name stays as it was.
+#[no_mangle]
+pub extern "C" fn trenailer_cell(
+    report: u8,
+    stack: &[u8],
+    depth: usize,
+    refused: &mut u8,
+    value: &mut f64,
+) -> u8
+    ensures { λ r. ⌜ (r, now (refused .exit), now (value .exit))
+        ≡ toldOf (cellOf report (now (stack .entry)) depth) (now (refused .entry)) (now (value .entry)) ⌝ }
+{
+    let shown = calculator::cell(report, stack, depth);
+    match shown {
+        Cell::Refused(n) => {
+            *refused = n;
+            0
+        }
+        Cell::Blank => 1,
+        Cell::Odd => 2,
+        Cell::Value(x) => {
+            *value = x;
+            3
+        }
+    }
+}

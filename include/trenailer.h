@@ -1,0 +1,84 @@
+/*
+ * Trenailer: the five-byte calculator arithmetic of the ZX Spectrum, on a stack of numbers that the caller lends.
+ *
+ * A number is five bytes. A stack is stack_len bytes, at most 16,000, and a depth: slot i is bytes 5i to 5i + 4, and the top is slot
+ * depth - 1. Bytes after the last whole slot are never read or written.
+ *
+ * Every call takes any bytes, any depth and any literal, keeps nothing between calls, and allocates nothing. A report other than 0
+ * means that no byte of the stack and no depth has changed (a run keeps what the literals before the refused one did).
+ *
+ *     report   when
+ *     0        done
+ *     1        a stack over 16,000 bytes, 5 x depth over its length, or more than 60,000 literals
+ *     2        fewer numbers on the stack than the literal takes
+ *     3        an operand is malformed; the pushed bytes are not five, or are malformed
+ *     4        no room for a push or a duplicate
+ *     5        not one of the ten literals
+ *     6        number too big
+ *
+ * Pointers. Each pointer is lent for the call. It points to as many bytes as the length beside it says, or to one object, and is not
+ * null, not even where the length is 0: pass the address of any object then. No two of a call's objects overlap. Nothing else reads or
+ * writes them during the call. Calls on different objects may run at the same time.
+ */
+#ifndef TRENAILER_H
+#define TRENAILER_H
+
+#include <stddef.h>
+#include <stdint.h>
+
+#ifdef __cplusplus
+extern "C" {
+#endif
+
+/* The ten literals. */
+enum {
+    TRENAILER_EXCHANGE = 1,
+    TRENAILER_DELETE = 2,
+    TRENAILER_SUBTRACT = 3,
+    TRENAILER_DIVIDE = 5,
+    TRENAILER_ADD = 15,
+    TRENAILER_NEGATE = 27,
+    TRENAILER_INT = 39,
+    TRENAILER_DUPLICATE = 49,
+    TRENAILER_TRUNCATE = 58,
+    TRENAILER_RE_STACK = 61
+};
+
+/* Does one literal. Returns the report; *depth is the depth after it, and where it is refused the depth before it. */
+uint8_t trenailer_operate(uint8_t *stack, size_t stack_len, size_t *depth, uint8_t literal);
+
+/* Pushes a number, five bytes, into slot *depth. Returns the report; *depth rises by one where it is 0. */
+uint8_t trenailer_push(uint8_t *stack, size_t stack_len, size_t *depth, const uint8_t *number, size_t number_len);
+
+/*
+ * Does literals in turn, and stops at the first that is refused. Returns its report, or 0. *position is how many were done, and *depth
+ * and the stack are as those left them. Report 1 comes before any of them, even for an empty list, with *position 0.
+ */
+uint8_t trenailer_run(uint8_t *stack, size_t stack_len, size_t *depth, const uint8_t *literals, size_t literals_len, size_t *position);
+
+/*
+ * Where the top number lies. Returns 5, with *start the place of its first byte in the stack; or 0, with *start as it was, at depth 0
+ * and where report 1 applies.
+ */
+size_t trenailer_view(const uint8_t *stack, size_t stack_len, size_t depth, size_t *start);
+
+/* What trenailer_cell returns. */
+enum {
+    TRENAILER_REFUSED = 0,
+    TRENAILER_BLANK = 1,
+    TRENAILER_ODD = 2,
+    TRENAILER_VALUE = 3
+};
+
+/*
+ * The display cell of a report and the stack after it. Refused: the report is in *refused (the one given; else 1 or 3 if the stack asks
+ * for it now). Blank: depth 0. Odd: the top is 00 FF 00 00, which the ROM makes by mistake. Value: the top's value is in *value, exactly.
+ * What a case does not name stays as it was.
+ */
+uint8_t trenailer_cell(uint8_t report, const uint8_t *stack, size_t stack_len, size_t depth, uint8_t *refused, double *value);
+
+#ifdef __cplusplus
+}
+#endif
+
+#endif
