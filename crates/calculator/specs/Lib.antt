@@ -8,8 +8,6 @@ pub mod Operate
 pub mod OperateLaws
 pub mod Dispatch
 pub mod DispatchLaws
-pub mod KindLaws
-pub mod StepLaws
 pub mod View
 pub mod Cell
 pub mod Run

@@ -19,9 +19,9 @@ module _ (ls : List ℕ) (i : ℕ) (s : List ℕ) (d : ℕ) where
   at-end h = simp (h, drop-length)
 
   module _ (k : i < length ls) (o : Outcome) (s′ : List ℕ) (e : operateOf s d (getD ls i 0) ≡ (o, s′)) where
-    pub stops : (o .report ≡ 0 → ⊥) → goOn (drop i ls) i s d ≡ (record { report = o .report; position = i; depth = d }, s′)
+    pub stops : (o .report ≡ 0 → ⊥) → goOn (drop i ls) i s d ≡ (record { report = o .report; position = i; depth = o .depth }, s′)
     unfolding goOn
-    stops h = let q = operate-kept s d _ o s′ e h .0 in rw (drop-cons ls i 0 k) (simp (e, ne-eqb _ _ h, q))
+    stops h = let q = operate-kept s d _ o s′ e h in rw (drop-cons ls i 0 k) (simp (e, ne-eqb _ _ h, q .0, q .1))
 
     pub goes-on : o .report ≡ 0 → goOn (drop i ls) i s d ≡ goOn (drop (i + 1) ls) (i + 1) s′ (o .depth)
     unfolding goOn

@@ -1,12 +1,13 @@
 // The seven literals that look at a number's form: 3, 5 and 15 of two operands, 27, 39, 58 and 61 of one.
-use crate::outcome::Outcome;
 use crate::slots;
 use arithmetic::Answer;
 use number::Form;
 use number::Number;
 ghost use mathlib.Core.Path.{_≡_};
+ghost use Rattle.calculator.specs.Literals.{one as ofOneNumber, two as ofTwoNumbers};
 ghost use Rattle.calculator.specs.Reports.{malformed};
-ghost use Rattle.calculator.specs.Dispatch.{ofOne, ofTwo, ReadyForOne, ReadyForTwo, Stepped};
+ghost use Rattle.calculator.specs.ReportLaws.{Within};
+ghost use Rattle.calculator.specs.Dispatch.{ofOne, ofTwo, RowRead, Stepped};
 
 pub fn is_malformed(x: Number) -> bool
     ensures { λ r. ⌜ r ≡ malformed x ⌝ }
@@ -42,48 +43,54 @@ fn of_one(literal: u8, x: Number) -> Answer
 }
 
 // The lower operand is the first, and the result stands in its slot.
-pub fn two(stack: &mut [u8], depth: usize, after: usize, literal: u8) -> Outcome
-    requires { ⌜ ReadyForTwo (now stack) depth after literal ⌝ }
-    ensures { λ r. ⌜ Stepped (now (stack .entry)) depth literal r (now (stack .exit)) ⌝ }
+pub fn two(stack: &mut [u8], depth: &mut usize, literal: u8, taken: usize, left: usize) -> u8
+    requires { ⌜ Within (now stack) (now depth) ⌝ }
+    requires { ⌜ RowRead literal (ofTwoNumbers (ofTwo literal)) 2 1 taken left ⌝ }
+    ensures { λ r. ⌜ Stepped (now (stack .entry)) (now (depth .entry)) literal r (now (depth .exit)) (now (stack .exit)) ⌝ }
 {
-    let first = slots::number_in(stack, depth - 2);
-    if is_malformed(first) {
-        return Outcome { report: 3, depth };
+    let old = *depth;
+    if old < taken {
+        return 2;
     }
-    let second = slots::number_in(stack, depth - 1);
+    let first = slots::number_in(stack, old - 2);
+    if is_malformed(first) {
+        return 3;
+    }
+    let second = slots::number_in(stack, old - 1);
     if is_malformed(second) {
-        return Outcome { report: 3, depth };
+        return 3;
     }
     let answer = of_two(literal, first, second);
     match answer {
         Answer::Done(n) => {
-            slots::put_in(stack, depth - 2, n);
-            Outcome {
-                report: 0,
-                depth: after,
-            }
+            slots::put_in(stack, old - 2, n);
+            *depth = old - taken + left;
+            0
         }
-        Answer::TooBig => Outcome { report: 6, depth },
+        Answer::TooBig => 6,
     }
 }
 
-pub fn one(stack: &mut [u8], depth: usize, after: usize, literal: u8) -> Outcome
-    requires { ⌜ ReadyForOne (now stack) depth after literal ⌝ }
-    ensures { λ r. ⌜ Stepped (now (stack .entry)) depth literal r (now (stack .exit)) ⌝ }
+pub fn one(stack: &mut [u8], depth: &mut usize, literal: u8, taken: usize, left: usize) -> u8
+    requires { ⌜ Within (now stack) (now depth) ⌝ }
+    requires { ⌜ RowRead literal (ofOneNumber (ofOne literal)) 1 1 taken left ⌝ }
+    ensures { λ r. ⌜ Stepped (now (stack .entry)) (now (depth .entry)) literal r (now (depth .exit)) (now (stack .exit)) ⌝ }
 {
-    let x = slots::number_in(stack, depth - 1);
+    let old = *depth;
+    if old < taken {
+        return 2;
+    }
+    let x = slots::number_in(stack, old - 1);
     if is_malformed(x) {
-        return Outcome { report: 3, depth };
+        return 3;
     }
     let answer = of_one(literal, x);
     match answer {
         Answer::Done(n) => {
-            slots::put_in(stack, depth - 1, n);
-            Outcome {
-                report: 0,
-                depth: after,
-            }
+            slots::put_in(stack, old - 1, n);
+            *depth = old - taken + left;
+            0
         }
-        Answer::TooBig => Outcome { report: 6, depth },
+        Answer::TooBig => 6,
     }
 }

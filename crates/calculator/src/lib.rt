@@ -3,6 +3,7 @@ mod compute;
 mod display;
 mod displaying;
 mod limits;
+mod moving;
 mod operation;
 mod outcome;
 mod pushing;

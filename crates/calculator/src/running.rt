@@ -5,8 +5,11 @@ use crate::outcome::RunOutcome;
 ghost use mathlib.Core.Path.{_≡_};
 ghost use Rattle.calculator.specs.Run.{runOf};
 
-// Where a run stopped: its report and its position.
-struct Stop(u8, usize);
+// Where a run stopped.
+struct Stop {
+    report: u8,
+    position: usize,
+}
 
 // Report 1 is checked once, even for an empty list.
 pub fn run(stack: &mut [u8], depth: usize, literals: &[u8]) -> RunOutcome
@@ -30,18 +33,20 @@ pub fn run(stack: &mut [u8], depth: usize, literals: &[u8]) -> RunOutcome
     let mut position = 0;
     let stop = loop {
         if position == literals.len() {
-            break Stop(0, position);
+            break Stop {
+                report: 0,
+                position,
+            };
         }
-        let done = operation::step(stack, current, literals[position]);
-        if done.report != 0 {
-            break Stop(done.report, position);
+        let report = operation::step(stack, &mut current, literals[position]);
+        if report != 0 {
+            break Stop { report, position };
         }
-        current = done.depth;
         position += 1;
     };
     RunOutcome {
-        report: stop.0,
-        position: stop.1,
+        report: stop.report,
+        position: stop.position,
         depth: current,
     }
 }

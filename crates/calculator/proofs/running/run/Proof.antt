@@ -47,7 +47,7 @@ shared-slice-read-step : tie.Need-shared-slice-read-step Inv-loop μ-loop
 shared-slice-read-step c = omega arith
 
 step-requires : tie.Need-step-requires Inv-loop μ-loop
-step-requires c κs = c .before .before .before .loop .inv .1
+step-requires c κs = c .before .before .before .before .loop .inv .1
 
 add-position : tie.Need-add-position Inv-loop μ-loop
 add-position c = omega arith
@@ -57,12 +57,15 @@ loop-less c = omega arith
 
 loop-again : tie.Need-loop-again Inv-loop μ-loop
 loop-again c =
-    let i = c .before .before .before .before .before .before .before .before .before .before .before .before .before .before .before in
+    let step = c .before .before .before .step in
     let l = c .before .before .before .before .before .before .before .before .loop in
-    let step = c .before .before .before .before .step in
-    let k : l .position < length (i .args .literals .now) = omega arith in
-    let q : length (step .last .0) ≡ length (l .stack) = step .kept .0 in
-    (sym (goes-on _ _ _ _ k _ _ (step .ensures .same) (omega arith)) ∙ l .inv .0, record { short = omega (arith, l .inv .1 .short); deep = omega (arith, step .ensures .fits) }, q ∙ l .inv .2, omega arith)
+    let k : l .position < length (c .before .before .before .before .before .before .before .before .before .before .before .before .before .before .before .args .literals .now) = omega arith in
+    let q : length (step .last .0) ≡ length (l .stack) = step .kept .0 in (
+      sym (goes-on _ _ _ _ k _ _ (step .ensures .same) (omega arith)) ∙ l .inv .0,
+      record { short = omega (arith, l .inv .1 .short); deep = omega (arith, step .ensures .fits) },
+      q ∙ l .inv .2,
+      omega arith,
+    )
 
 same-length-3 : tie.Need-same-length-3 Inv-loop μ-loop
 same-length-3 c = c .before .loop .inv .2
@@ -71,14 +74,13 @@ returns-3 : tie.Need-returns-3 Inv-loop μ-loop
 returns-3 c = sym (c .before .loop .inv .0) ∙ at-end _ _ _ _ (c .if3 .taken)
 
 same-length-4 : tie.Need-same-length-4 Inv-loop μ-loop
-same-length-4 c = c .before .before .before .before .step .kept .0 ∙ c .before .before .before .before .before .before .before .before .loop .inv .2
+same-length-4 c = c .before .before .before .step .kept .0 ∙ c .before .before .before .before .before .before .before .before .loop .inv .2
 
 returns-4 : tie.Need-returns-4 Inv-loop μ-loop
 returns-4 c =
-    let i = c .before .before .before .before .before .before .before .before .before .before .before .before .before .before .before in
+    let step = c .before .before .before .step in
     let l = c .before .before .before .before .before .before .before .before .loop in
-    let step = c .before .before .before .before .step in
-    let k : l .position < length (i .args .literals .now) = omega arith in
+    let k : l .position < length (c .before .before .before .before .before .before .before .before .before .before .before .before .before .before .before .args .literals .now) = omega arith in
     sym (l .inv .0) ∙ stops _ _ _ _ k _ _ (step .ensures .same) (omega arith)
 
 pub run-spec : {M : Type 1} → statement M

@@ -1,0 +1,20 @@
+-- `delete` meets its contract: it moves the depth and no byte.
+use borrow.Author.Needs.{needs}
+use mathlib.Core.Path.{refl}
+use native.Mathlib.Omega.{arith}
+use Rattle.calculator.specs.Reports.{notInTable, noRoomFor, malformedOperand, tooBig}
+use Rattle.calculator.specs.Operate.{bytesAfter}
+use Rattle.calculator.specs.DispatchLaws.{refused-2, accepted}
+use Rattle.calculator.proofs.moving.delete.Statement.{statement}
+use Rattle.calculator.proofs.moving.delete.Tie as tie
+
+returns : tie.Need-returns
+unfolding notInTable
+returns c s w = refused-2 _ _ _ _ w (c .before .before .pre) refl (c .if1 .taken)
+
+returns-2 : tie.Need-returns-2
+unfolding notInTable noRoomFor malformedOperand tooBig bytesAfter
+returns-2 c s w = accepted _ _ _ _ w (c .before .before .pre) refl (c .if1 .left) refl refl refl (omega arith) _ refl
+
+pub delete-spec : {M : Type 1} → statement M
+delete-spec = tie.close (tie.spec returns (λ c. search needs) returns-2)
