@@ -43,7 +43,7 @@ fn of_one(literal: u8, x: Number) -> Answer
 }
 
 // The lower operand is the first, and the result stands in its slot.
-pub fn two(stack: &mut [u8], depth: &mut usize, literal: u8, taken: usize, left: usize) -> u8
+pub(crate) fn two(stack: &mut [u8], depth: &mut usize, literal: u8, taken: usize, left: usize) -> u8
     requires { ⌜ Within (now stack) (now depth) ⌝ }
     requires { ⌜ RowRead literal (ofTwoNumbers (ofTwo literal)) 2 1 taken left ⌝ }
     ensures { λ r. ⌜ Stepped (now (stack .entry)) (now (depth .entry)) literal r (now (depth .exit)) (now (stack .exit)) ⌝ }
@@ -71,7 +71,7 @@ pub fn two(stack: &mut [u8], depth: &mut usize, literal: u8, taken: usize, left:
     }
 }
 
-pub fn one(stack: &mut [u8], depth: &mut usize, literal: u8, taken: usize, left: usize) -> u8
+pub(crate) fn one(stack: &mut [u8], depth: &mut usize, literal: u8, taken: usize, left: usize) -> u8
     requires { ⌜ Within (now stack) (now depth) ⌝ }
     requires { ⌜ RowRead literal (ofOneNumber (ofOne literal)) 1 1 taken left ⌝ }
     ensures { λ r. ⌜ Stepped (now (stack .entry)) (now (depth .entry)) literal r (now (depth .exit)) (now (stack .exit)) ⌝ }

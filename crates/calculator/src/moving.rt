@@ -6,7 +6,7 @@ ghost use Rattle.calculator.specs.Literals.{exchange as swap, delete as 
 ghost use Rattle.calculator.specs.ReportLaws.{Within};
 ghost use Rattle.calculator.specs.Dispatch.{RowRead, Stepped};
 
-pub fn exchange(stack: &mut [u8], depth: &mut usize, taken: usize, left: usize) -> u8
+pub(crate) fn exchange(stack: &mut [u8], depth: &mut usize, taken: usize, left: usize) -> u8
     requires { ⌜ Within (now stack) (now depth) ⌝ }
     requires { ⌜ RowRead 1 swap 2 2 taken left ⌝ }
     ensures { λ r. ⌜ Stepped (now (stack .entry)) (now (depth .entry)) 1 r (now (depth .exit)) (now (stack .exit)) ⌝ }
@@ -24,7 +24,7 @@ pub fn exchange(stack: &mut [u8], depth: &mut usize, taken: usize, left: usize) 
 }
 
 // Whatever the stack, its bytes stay.
-pub fn delete(depth: &mut usize, taken: usize, left: usize) -> u8
+pub(crate) fn delete(depth: &mut usize, taken: usize, left: usize) -> u8
     requires { ⌜ RowRead 2 drop 1 0 taken left ⌝ }
     ensures { λ r. ⌜ ((s : List ℕ) → Within s (now (depth .entry)) → Stepped s (now (depth .entry)) 2 r (now (depth .exit)) s) ⌝ }
 {
@@ -36,7 +36,7 @@ pub fn delete(depth: &mut usize, taken: usize, left: usize) -> u8
     0
 }
 
-pub fn duplicate(stack: &mut [u8], depth: &mut usize, taken: usize, left: usize) -> u8
+pub(crate) fn duplicate(stack: &mut [u8], depth: &mut usize, taken: usize, left: usize) -> u8
     requires { ⌜ Within (now stack) (now depth) ⌝ }
     requires { ⌜ RowRead 49 copy 1 2 taken left ⌝ }
     ensures { λ r. ⌜ Stepped (now (stack .entry)) (now (depth .entry)) 49 r (now (depth .exit)) (now (stack .exit)) ⌝ }

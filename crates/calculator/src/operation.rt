@@ -27,7 +27,7 @@ pub fn operate(stack: &mut [u8], depth: usize, literal: u8) -> Outcome
 // An operation on a stack within its limits: its report, with the depth moved where it is 0. A run checks the limits once and then
 // calls this for each literal. The seven that compute are calls of their own from several arms, so that the compiler keeps their
 // frames out of this one.
-pub fn step(stack: &mut [u8], depth: &mut usize, literal: u8) -> u8
+pub(crate) fn step(stack: &mut [u8], depth: &mut usize, literal: u8) -> u8
     requires { ⌜ Within (now stack) (now depth) ⌝ }
     ensures { λ r. ⌜ Stepped (now (stack .entry)) (now (depth .entry)) literal r (now (depth .exit)) (now (stack .exit)) ⌝ }
 {

@@ -6,7 +6,7 @@ ghost use lib.ListN.{length};
 ghost use Rattle.calculator.specs.Slots.{numberIn, putIn};
 
 // The number in a slot.
-pub fn number_in(stack: &[u8], slot: usize) -> Number
+pub(crate) fn number_in(stack: &[u8], slot: usize) -> Number
     requires { ⌜ 5 * slot + 5 ≤ length (now stack) ⌝ }
     ensures { λ r. ⌜ r ≡ numberIn (now (stack .entry)) slot ⌝ }
 {
@@ -21,7 +21,7 @@ pub fn number_in(stack: &[u8], slot: usize) -> Number
 }
 
 // Puts a number into a slot.
-pub fn put_in(stack: &mut [u8], slot: usize, n: Number)
+pub(crate) fn put_in(stack: &mut [u8], slot: usize, n: Number)
     requires { ⌜ 5 * slot + 5 ≤ length (now stack) ⌝ }
     ensures { λ _. ⌜ now (stack .exit) ≡ putIn (now (stack .entry)) slot n ⌝ }
 {
