@@ -29,6 +29,18 @@ unfolding normal
 normal-again zero l f h = absurd (f refl)
 normal-again (suc k) l f h = simp (lt-ltb _ _ h, sub-one)
 
+-- a doubling lowers the exponent by one, and there is one for each place at most
+pub normal-exponent : (places : ℕ) (l : Loose) → (l .e ≤ normal places l .e + places) × (normal places l .e ≤ l .e)
+unfolding normal
+normal-exponent zero l = omega arith
+normal-exponent (suc k) l = by-test (ltb (l .t) (2 ^ 31)) (normal-exponent k (doubled l))
+  where
+    by-test :
+        (b : Bool) → (l .e - 1 ≤ normal k (doubled l) .e + k) × (normal k (doubled l) .e ≤ l .e - 1) →
+        (l .e ≤ cond b (normal k (doubled l)) l .e + suc k) × (cond b (normal k (doubled l)) l .e ≤ l .e)
+    by-test true h = omega arith
+    by-test false h = omega arith
+
 -- "this never reaches 2^32 here": a lone rounding digit is added to T, or it is taken in by a doubling and nothing is added
 pub rounded-below : (places : ℕ) (l : Loose) → l .digits < 2 → rounded l < 2 ^ 32 → rounded (normal places l) < 2 ^ 32
 unfolding normal

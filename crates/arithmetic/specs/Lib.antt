@@ -5,6 +5,9 @@ pub mod SignedLaws
 pub mod AdditionLaws
 pub mod ShortRouteLaws
 pub mod Int
+pub mod IntLaws
+pub mod WholePartLaws
+pub mod FractionLaws
 pub mod Rounds
 pub mod RoundsLaws
 pub mod Division

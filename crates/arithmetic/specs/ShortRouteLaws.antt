@@ -29,7 +29,7 @@ wraps a b h g = go (ltb ((a + b) % 2 ^ 16) a) refl
     go true e = omega (arith, ltb-true)
     go false e = omega (arith, ltb-false)
 
-value-as : (x : Number) → Bytes x → shortValue x ≡ pos (low x) -ℤ pos (2 ^ 16 * (x .b2 / 255))
+pub value-as : (x : Number) → Bytes x → shortValue x ≡ pos (low x) -ℤ pos (2 ^ 16 * (x .b2 / 255))
 unfolding shortValue
 value-as x b = ap (λ (n : ℕ). pos (low x) -ℤ pos n) (go (eqb (x .b2) 255) refl)
   where
@@ -47,7 +47,7 @@ differences a b d e =
     ∙ ap (λ (z : ℤ). pos (a + b) +ℤ z) (same-sign 1 d e)
 
 module _ (x y : Number) (z : ℤ) (e : shortSum x y ≡ z) where
-  stored : storedShort z ≡ true → shortRoute x y ≡ Done (shortOfWhole z)
+  pub stored : storedShort z ≡ true → shortRoute x y ≡ Done (shortOfWhole z)
   unfolding shortRoute
   stored t = ap (λ (w : ℤ). cond (storedShort w) (Done (shortOfWhole w)) (fullRoute x y)) e ∙ simp t
 
@@ -132,7 +132,7 @@ module _ (x y : Number) where
       go false = refl
 
   module _ (f : x .b1 ≡ 0) (g : y .b1 ≡ 0) where
-    short : sumOf x y ≡ shortRoute x y
+    pub short : sumOf x y ≡ shortRoute x y
     unfolding sumOf
     short = simp (eq-eqb (x .b1) 0 f, eq-eqb (y .b1) 0 g)
 

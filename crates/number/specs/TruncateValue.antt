@@ -37,7 +37,7 @@ whole-part m k e h =
     ap (λ (n : ℕ). m * 2 ^ e / n) (ap (λ (n : ℕ). 2 ^ n) (sym h) ∙ pow-add 2 k e) ∙ mul-div-mul-right m (2 ^ k) (pow-pos e)
 
 -- clearing up to 31 places leaves the top bit
-cleared-least : (m k : ℕ) → 2 ^ 31 ≤ m → k ≤ 31 → 2 ^ 31 ≤ cleared k m
+pub cleared-least : (m k : ℕ) → 2 ^ 31 ≤ m → k ≤ 31 → 2 ^ 31 ≤ cleared k m
 cleared-least m k lo h =
     let places : 31 ≡ 31 - k + k = omega arith in
     let split : 2 ^ 31 ≡ 2 ^ (31 - k) * 2 ^ k = ap (λ (n : ℕ). 2 ^ n) places ∙ pow-add 2 (31 - k) k in

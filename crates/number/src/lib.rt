@@ -17,6 +17,7 @@ pub use parts::low_half;
 pub use parts::mantissa;
 pub use parts::short_halves;
 pub use restacking::re_stack;
+pub use truncation::is_taken_65536;
 pub use truncation::truncate;
 pub use unpacking::Unpacked;
 pub use unpacking::unpack;

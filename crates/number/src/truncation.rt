@@ -12,7 +12,7 @@ ghost use mathlib.Core.Bool.{true};
 ghost use Rattle.number.specs.Truncate.{truncated, truncatedFull, taken65536};
 
 // What the listing takes for -65,536.
-fn is_taken_65536(x: Number) -> bool
+pub fn is_taken_65536(x: Number) -> bool
     ensures { λ r. ⌜ r ≡ taken65536 x ⌝ }
 {
     if x.b1 != 145 {

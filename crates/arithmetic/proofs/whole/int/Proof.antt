@@ -1,25 +1,38 @@
--- `int` meets its contract: its test is the definition's.
-use mathlib.Core.Path.{_∙_, ap}
+-- `int` meets its contract: its test is the definition's, and the fraction says which case of `stepDown` holds.
+use mathlib.Core.Path.{sym, _∙_, ap, ap₂}
 use borrow.Author.Needs.{needs}
-use borrow.Author.Tests.{lt-ltb, le-ltb}
+use native.Mathlib.Omega.{arith}
 use Rattle.number.specs.declared.Number.{Number}
 use Rattle.arithmetic.specs.declared.answer.Answer.the-variants.{Done}
 use Rattle.arithmetic.specs.Addition.{differenceOf}
-use Rattle.arithmetic.specs.Int.{stepDown, intOf}
+use Rattle.arithmetic.specs.Int.{stepDown}
+use Rattle.arithmetic.specs.IntLaws.{int-positive, int-negative}
 use Rattle.arithmetic.proofs.whole.int.Statement.{statement}
 use Rattle.arithmetic.proofs.whole.int.Tie as tie
 
 returns : tie.Need-returns
-unfolding intOf
-returns c = simp (lt-ltb _ _ (c .if1 .taken)) (ap Done (c .before .before .truncate .ensures))
+returns c = ap Done (c .before .before .truncate .ensures) ∙ sym (int-positive _ (omega arith))
 
 returns-2 : tie.Need-returns-2
-unfolding intOf
 returns-2 c =
-    let t = c .before .before .before .before .truncate in
-    let x = c .before .before .before .before .before .args .x in
-    simp (le-ltb _ _ (c .before .before .if1 .left))
-    (c .step-down .ensures ∙ ap (stepDown (t .result)) (c .before .subtract .ensures) ∙ ap (λ (n : Number). stepDown n (differenceOf x n)) (t .ensures))
+    let d = c .before .before .before .before in
+    ap Done (d .truncate .ensures) ∙ sym (int-negative _ (omega arith) ∙ c .before .fraction-of .ensures .whole (c .match .keys1))
+
+returns-3 : tie.Need-returns-3
+returns-3 c =
+    let d = c .before .before .before .before .before .before in
+    c .subtract .ensures
+    ∙ ap₂ differenceOf (d .truncate .ensures) (c .before .short-halves .ensures)
+    ∙ sym (int-negative _ (omega arith) ∙ c .before .before .before .fraction-of .ensures .part (c .before .before .match .keys2))
+
+returns-4 : tie.Need-returns-4
+returns-4 c =
+    let d = c .before .before .before .before .before .before in
+    let x = d .before .args .x in
+    c .step-down .ensures
+    ∙ ap (stepDown (d .truncate .result)) (c .before .subtract2 .ensures)
+    ∙ ap (λ (n : Number). stepDown n (differenceOf x n)) (d .truncate .ensures)
+    ∙ sym (int-negative _ (omega arith))
 
 pub int-spec : {M : Type 1} → statement M
 int-spec =
@@ -29,4 +42,9 @@ int-spec =
     returns
     (λ c κs. search needs)
     (λ c κs. search needs)
-    returns-2)
+    (λ c κs. search needs)
+    (λ c κs. search needs)
+    (λ c κs. search needs)
+    returns-2
+    returns-3
+    returns-4)
