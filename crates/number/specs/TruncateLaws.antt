@@ -1,11 +1,14 @@
 -- A law for each case of truncation.
 use Prim.Native.Nat.{_-_, _^_, _/_, _≤_, _<_}
-use mathlib.Core.Path.{_≡_, ap}
+use mathlib.Core.Path.{_≡_, refl, ap}
 use mathlib.Core.Bool.{true, false}
 use native.Mathlib.Omega.{arith}
 use borrow.Author.Tests.{lt-ltb, le-ltb}
 use Rattle.number.specs.declared.Number.{Number}
 use Rattle.number.specs.declared.form.Form.{Form}
+use Rattle.number.specs.declared.form.Form.the-variants.{Full, Short, Odd, Malformed}
+use Rattle.number.specs.FormLaws.{form-full}
+use Rattle.number.specs.NumberLaws.{form-bytes}
 use Rattle.number.specs.Number.{bytes, zeros, sign, mantissa, fullOf, shortOf, formOf}
 use Rattle.number.specs.Truncate.{taken65536, cleared, truncatedFull, truncatedAs, truncated}
 
@@ -13,6 +16,18 @@ module _ (x : Number) where
   pub truncate-as : (f : Form) → formOf x ≡ f → truncated x ≡ truncatedAs f x
   unfolding truncated
   truncate-as f h = ap (λ (g : Form). truncatedAs g x) h
+
+  pub truncate-full : (x .b1 ≡ 0 → ⊥) → truncated x ≡ truncatedFull x
+  truncate-full h = truncate-as Full (form-full x h)
+
+  pub truncate-not-full : x .b1 ≡ 0 → truncated x ≡ x
+  truncate-not-full h = go (formOf x) refl
+    where
+      go : (f : Form) → formOf x ≡ f → truncated x ≡ x
+      go Full g = absurd (omega (arith, form-bytes x Full g))
+      go Short g = truncate-as Short g
+      go Odd g = truncate-as Odd g
+      go Malformed g = truncate-as Malformed g
 
   pub truncate-below-one : x .b1 < 129 → truncatedFull x ≡ zeros
   unfolding truncatedFull

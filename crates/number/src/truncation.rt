@@ -1,7 +1,5 @@
 // Truncation towards zero, `truncate` of the listing.
 use super::Number;
-use super::form::Form;
-use super::form::form_of;
 use super::parts::bytes;
 use super::parts::full;
 use super::parts::mantissa;
@@ -50,11 +48,8 @@ fn truncate_full(x: Number) -> Number
 pub fn truncate(x: Number) -> Number
     ensures { λ r. ⌜ r ≡ truncated x ⌝ }
 {
-    let form = form_of(x);
-    match form {
-        Form::Full => truncate_full(x),
-        Form::Short => x,
-        Form::Odd => x,
-        Form::Malformed => x,
+    if x.b1 == 0 {
+        return x;
     }
+    truncate_full(x)
 }
