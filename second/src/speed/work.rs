@@ -140,7 +140,7 @@ fn mixed_run(rng: &mut Rng) -> Work {
     }
     Work {
         name: format!("run of {RUN_LENGTH} mixed literals"),
-        promised: true,
+        promised: false,
         call: Call::Run(start, literals),
         stacks: Vec::new(),
     }
