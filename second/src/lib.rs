@@ -10,6 +10,7 @@ pub mod reference;
 pub mod rng;
 #[cfg(feature = "z80")]
 pub mod rom;
+pub mod sheet;
 pub mod text;
 pub mod vectors;
 

@@ -1,7 +1,8 @@
-//! `vectors ROOT` writes ROOT/crates/vectors/stdin and stdout; `vectors ROOT --check` says
-//! whether they are what it would write.
+//! `vectors ROOT` writes ROOT/crates/vectors/stdin and stdout, and crates/calc/stdout as the
+//! answers to crates/calc/stdin; `vectors ROOT --check` says whether they are what it would
+//! write.
 
-use second::vectors;
+use second::{sheet, vectors};
 use std::path::Path;
 use std::process::ExitCode;
 
@@ -15,20 +16,29 @@ fn main() -> ExitCode {
             return ExitCode::from(2);
         }
     };
-    let folder = Path::new(root).join("crates").join("vectors");
+    let root = Path::new(root);
+    let input = match std::fs::read_to_string(root.join("crates/calc/stdin")) {
+        Ok(input) => input,
+        Err(error) => {
+            eprintln!("crates/calc/stdin: {error}");
+            return ExitCode::FAILURE;
+        }
+    };
     let v = vectors::all();
     let mut current = true;
-    for (name, text) in [("stdin", &v.stdin), ("stdout", &v.stdout)] {
-        let path = folder.join(name);
+    for (name, text) in [
+        ("crates/vectors/stdin", &v.stdin),
+        ("crates/vectors/stdout", &v.stdout),
+        ("crates/calc/stdout", &sheet::answers(&input)),
+    ] {
+        let path = root.join(name);
         if check {
             if std::fs::read(&path).ok().as_deref() != Some(text.as_bytes()) {
-                println!("crates/vectors/{name} is not current: run second/vectors");
+                println!("{name} is not current: run second/vectors");
                 current = false;
             }
-        } else if let Err(error) =
-            std::fs::create_dir_all(&folder).and_then(|()| std::fs::write(&path, text))
-        {
-            eprintln!("crates/vectors/{name}: {error}");
+        } else if let Err(error) = std::fs::write(&path, text) {
+            eprintln!("{name}: {error}");
             return ExitCode::FAILURE;
         }
     }

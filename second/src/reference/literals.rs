@@ -21,6 +21,20 @@ pub const ALL: [u8; 10] = [
     EXCHANGE, DELETE, SUBTRACT, DIVIDE, ADD, NEGATE, INT, DUPLICATE, TRUNCATE, RE_STACK,
 ];
 
+/// The ROM's names, in the order of `ALL`.
+pub const NAMES: [&str; 10] = [
+    "exchange",
+    "delete",
+    "subtract",
+    "divide",
+    "add",
+    "negate",
+    "int",
+    "duplicate",
+    "truncate",
+    "re-stack",
+];
+
 /// How many numbers a literal takes; `None` for a byte that is no literal.
 pub fn takes(literal: u8) -> Option<usize> {
     match literal {

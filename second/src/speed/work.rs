@@ -2,7 +2,10 @@
 
 use super::calls::Calls;
 use crate::draw;
-use crate::reference::{self, literals::ALL};
+use crate::reference::{
+    self,
+    literals::{ALL, NAMES},
+};
 use crate::rng::Rng;
 use crate::Bytes;
 use std::hint::black_box;
@@ -39,19 +42,6 @@ enum Mix {
     Full,
     Any,
 }
-
-const NAMES: [&str; 10] = [
-    "exchange",
-    "delete",
-    "subtract",
-    "divide",
-    "add",
-    "negate",
-    "int",
-    "duplicate",
-    "truncate",
-    "re-stack",
-];
 
 pub fn all() -> Vec<Work> {
     let mut rng = Rng::new(48);
