@@ -21,7 +21,7 @@ fn literal_to(line: &[u8], at: usize, v: u16) -> Line
 }
 
 // One to three digits.
-pub fn literal_at(line: &[u8], at: usize) -> Line
+pub(crate) fn literal_at(line: &[u8], at: usize) -> Line
     requires { ⌜ at ≤ length (now line) ⌝ }
     ensures { λ r. ⌜ r ≡ literalAt (now (line .entry)) at ⌝ }
 {

@@ -36,7 +36,7 @@ fn if_named(line: &[u8], at: usize, name: &[u8], literal: u8, other: Line) -> Li
     other
 }
 
-pub fn name_at(line: &[u8], at: usize) -> Line
+pub(crate) fn name_at(line: &[u8], at: usize) -> Line
     requires { ⌜ at ≤ length (now line) ⌝ }
     ensures { λ r. ⌜ r ≡ nameAt (now (line .entry)) at ⌝ }
 {

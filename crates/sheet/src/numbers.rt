@@ -39,7 +39,7 @@ fn byte_at(line: &[u8], at: usize) -> Byte
     }
 }
 
-pub fn number_at(line: &[u8], at: usize) -> Line
+pub(crate) fn number_at(line: &[u8], at: usize) -> Line
     requires { ⌜ at ≤ length (now line) ⌝ }
     ensures { λ r. ⌜ r ≡ numberAt (now (line .entry)) at ⌝ }
 {

@@ -15,7 +15,7 @@ fn glyph(d: u8) -> u8
     55 + d
 }
 
-pub fn put_digit(out: &mut [u8], at: usize, d: u8) -> usize
+pub(crate) fn put_digit(out: &mut [u8], at: usize, d: u8) -> usize
     requires { ⌜ d < 16 ⌝ }
     ensures { λ r. ⌜ (now (out .exit), r) ≡ putOf (now (out .entry), at) (digitOf d) ⌝ }
 {
