@@ -1,19 +1,25 @@
 -- What the code's checks amount to in the table of reports.
 use Prim.Native.Nat.{ℕ, suc, _+_, _-_, _*_, _≤_, _<_}
-use mathlib.Core.Path.{_≡_, refl, sym, _∙_, ap}
-use mathlib.Core.Bool.{Bool, true, false}
+use mathlib.Core.Path.{_≡_, refl, sym, _∙_, ap, subst}
+use mathlib.Core.Bool.{Bool, true, false, cond, _||_}
 use mathlib.Core.List.{List}
 use native.Mathlib.Omega.{arith}
+use borrow.Author.Tests.{lt-ltb, le-ltb, ltb-true, ltb-false}
+use lib.Dec.{ltb}
 use lib.ListN.{length}
 use Rattle.number.specs.declared.Number.{Number}
-use Rattle.arithmetic.specs.declared.answer.Answer.the-variants.{Done, TooBig}
-use Rattle.calculator.specs.Slots.{putIn}
+use Rattle.number.specs.Number.{malformed}
+use Rattle.ending.specs.declared.answer.Answer.{Answer}
+use Rattle.ending.specs.declared.answer.Answer.the-variants.{Done, TooBig}
+use Rattle.slots.specs.Slots.{putIn, top, lower}
+use Rattle.slots.specs.LimitLaws.{Within}
+use Rattle.calculator.specs.declared.two.Operands.{Operands}
 use Rattle.calculator.specs.Literals.{Operation, one, two, Row, operationOf, takes, leaves}
-use Rattle.calculator.specs.Reports.{top, lower, notInTable, noRoomFor, malformed, malformedOperand, isTooBig, tooBig, reportOf}
-use Rattle.calculator.specs.ReportLaws.{Within, Reached, report-2, report-4, report-3, report-6, report-0}
+use Rattle.calculator.specs.Reports.{notInTable, noRoomFor, malformedOperand, isTooBig, tooBig, reportOf}
+use Rattle.calculator.specs.ReportLaws.{Reached, report-2, report-4, report-3, report-6, report-0}
 use Rattle.calculator.specs.Operate.{stored, bytesAfter}
 use Rattle.calculator.specs.OperateLaws.{operate-refused, operate-done}
-use Rattle.calculator.specs.Dispatch.{ofOne, ofTwo, RowRead, Stepped}
+use Rattle.calculator.specs.Dispatch.{ofOne, RowRead, Stepped, TwoRead, storedOf}
 
 -- a refusal with the number k + 1 is a step
 pub refused : (s : List ℕ) (d l : ℕ) {k : ℕ} → Within s d → reportOf s d l ≡ suc k → Stepped s d l (suc k) d s
@@ -63,40 +69,51 @@ module _ (s : List ℕ) (d l : ℕ) (o : Operation) {t n taken left : ℕ} (w : 
             fits = q;
           }
 
--- a literal that looks at the top
+-- a literal that looks at the top, and is never too big
 module _ (s : List ℕ) (d l : ℕ) {taken left : ℕ} (w : Within s d) (r : RowRead l (one (ofOne l)) 1 1 taken left) (h : taken ≤ d) where
   pub one-malformed : malformed (top s d) ≡ true → Stepped s d l 3 d s
   unfolding notInTable noRoomFor malformedOperand
   one-malformed m = refused-3 s d l (one (ofOne l)) w r refl h refl m
-
-  pub one-too-big : malformed (top s d) ≡ false → ofOne l (top s d) ≡ TooBig → Stepped s d l 6 d s
-  unfolding notInTable noRoomFor malformedOperand tooBig isTooBig
-  one-too-big m b = refused-6 s d l (one (ofOne l)) w r refl h refl m (simp b)
 
   pub one-done : (n : Number) → malformed (top s d) ≡ false → ofOne l (top s d) ≡ Done n → Stepped s d l 0 (d - taken + left) (putIn s (d - 1) n)
   unfolding notInTable noRoomFor malformedOperand tooBig isTooBig bytesAfter stored
   one-done n m b = accepted s d l (one (ofOne l)) w r refl h refl m (simp b) (omega arith) _ (simp b)
 
 -- a literal that looks at the two on top
-module _ (s : List ℕ) (d l : ℕ) {taken left : ℕ} (w : Within s d) (r : RowRead l (two (ofTwo l)) 2 1 taken left) (h : taken ≤ d) where
-  pub two-malformed-first : malformed (lower s d) ≡ true → Stepped s d l 3 d s
+module _ (s : List ℕ) (d l : ℕ) (f : Number → Number → Answer) {taken left : ℕ} (w : Within s d) (r : RowRead l (two f) 2 1 taken left) where
+  -- refused with 2 or 3
+  pub two-refused : (report : ℕ) → report ≡ cond (ltb d 2) 2 (cond (malformed (lower s d) || malformed (top s d)) 3 0) → (report ≡ 0 → ⊥) → Stepped s d l report d s
   unfolding notInTable noRoomFor malformedOperand
-  two-malformed-first m = refused-3 s d l (two (ofTwo l)) w r refl h refl (simp m)
+  two-refused report e n = go (ltb d 2) (malformed (lower s d) || malformed (top s d)) refl refl e
+    where
+      go : (b c : Bool) → ltb d 2 ≡ b → malformed (lower s d) || malformed (top s d) ≡ c → report ≡ cond b 2 (cond c 3 0) → Stepped s d l report d s
+      go true c i j k = subst (λ (q : ℕ). Stepped s d l q d s) (sym k) (refused-2 s d l (two f) w r refl (omega (arith, ltb-true d 2 i, r .takes)))
+      go false true i j k =
+          subst (λ (q : ℕ). Stepped s d l q d s) (sym k) (refused-3 s d l (two f) w r refl (omega (arith, ltb-false d 2 i, r .takes)) refl j)
+      go false false i j k = absurd (n k)
 
-  module _ (g : malformed (lower s d) ≡ false) where
-    pub two-malformed-second : malformed (top s d) ≡ true → Stepped s d l 3 d s
-    unfolding notInTable noRoomFor malformedOperand
-    two-malformed-second m = refused-3 s d l (two (ofTwo l)) w r refl h refl (simp (g, m))
+  -- not refused: the answer is stored, or is report 6
+  module _ (e : _≡_ {A = ℕ} (cond (ltb d 2) 2 (cond (malformed (lower s d) || malformed (top s d)) 3 0)) 0) where
+    pub read : (2 ≤ d) × (malformed (lower s d) || malformed (top s d) ≡ false)
+    read = go (ltb d 2) (malformed (lower s d) || malformed (top s d)) refl refl e
+      where
+        go : (b c : Bool) → ltb d 2 ≡ b → malformed (lower s d) || malformed (top s d) ≡ c → _≡_ {A = ℕ} (cond b 2 (cond c 3 0)) 0
+            → (2 ≤ d) × (malformed (lower s d) || malformed (top s d) ≡ false)
+        go true c i j k = absurd (omega arith)
+        go false true i j k = absurd (omega arith)
+        go false false i j k = (ltb-false d 2 i, j)
 
-    pub two-too-big : malformed (top s d) ≡ false → ofTwo l (lower s d) (top s d) ≡ TooBig → Stepped s d l 6 d s
-    unfolding notInTable noRoomFor malformedOperand tooBig isTooBig
-    two-too-big m b = refused-6 s d l (two (ofTwo l)) w r refl h refl (simp (g, m)) (simp b)
+    pub two-stored : (report d′ : ℕ) (s′ : List ℕ) → storedOf s d (f (lower s d) (top s d)) ≡ (report, d′, s′) → Stepped s d l report d′ s′
+    unfolding notInTable noRoomFor malformedOperand tooBig isTooBig bytesAfter stored storedOf
+    two-stored report d′ s′ g = go (f (lower s d) (top s d)) refl g
+      where
+        to : {q : ℕ × ℕ × List ℕ} → q ≡ (report, d′, s′) → Stepped s d l (q .0) (q .1) (q .2) → Stepped s d l report d′ s′
+        to p t = subst (λ (q : ℕ × ℕ × List ℕ). Stepped s d l (q .0) (q .1) (q .2)) p t
 
-    pub two-done : (n : Number) → malformed (top s d) ≡ false → ofTwo l (lower s d) (top s d) ≡ Done n
-        → Stepped s d l 0 (d - taken + left) (putIn s (d - 2) n)
-    unfolding notInTable noRoomFor malformedOperand tooBig isTooBig bytesAfter stored
-    two-done n m b = accepted s d l (two (ofTwo l)) w r refl h refl (simp (g, m)) (simp b) (omega arith) _ (simp b)
-
--- of a number that was read and whose form was tested
-pub seen : {x y : Number} {b v : Bool} → x ≡ y → b ≡ malformed x → b ≡ v → malformed y ≡ v
-seen e m t = sym (ap malformed e) ∙ (sym m ∙ t)
+        go : (a : Answer) → f (lower s d) (top s d) ≡ a → storedOf s d a ≡ (report, d′, s′) → Stepped s d l report d′ s′
+        go (Done n) i j =
+            let after : d - taken + left ≡ d - 2 + 1 = omega (arith, r .takes, r .leaves) in
+            to j
+            (subst (λ (q : ℕ). Stepped s d l 0 q (putIn s (d - 2) n)) after
+            (accepted s d l (two f) w r refl (omega (arith, read, r .takes)) refl (read .1) (simp i) (omega (arith, read, r .takes, r .leaves)) _ (simp i)))
+        go TooBig i j = to j (refused-6 s d l (two f) w r refl (omega (arith, read, r .takes)) refl (read .1) (simp i))

@@ -1,22 +1,17 @@
 -- Document 01, "Literals": the ten literals, with what each does and how many numbers it takes and leaves.
 use Prim.Native.Nat.{ℕ}
-use mathlib.Core.Bool.{Bool, true, false}
+use mathlib.Core.Bool.{cond}
 use mathlib.Core.List.{List, [], _∷_}
 use lib.Dec.{eqb}
 use Rattle.number.specs.declared.Number.{Number}
 use Rattle.number.specs.Restack.{restacked}
 use Rattle.number.specs.Negate.{negated}
-use Rattle.number.specs.Truncate.{truncated}
-use Rattle.arithmetic.specs.declared.answer.Answer.{Answer}
-use Rattle.arithmetic.specs.declared.answer.Answer.the-variants.{Done}
-use Rattle.arithmetic.specs.Addition.{sumOf, differenceOf}
-use Rattle.arithmetic.specs.Division.{quotientOf}
-use Rattle.arithmetic.specs.Int.{intOf}
-
--- the first where the test holds, else the second
-abbrev pub pick : {A : Type 0} → Bool → A → A → A
-pick true x y = x
-pick false x y = y
+use Rattle.ending.specs.declared.answer.Answer.{Answer}
+use Rattle.ending.specs.declared.answer.Answer.the-variants.{Done}
+use Rattle.addition.specs.Addition.{sumOf, differenceOf}
+use Rattle.division.specs.Division.{quotientOf}
+use Rattle.truncation.specs.Truncate.{truncated}
+use Rattle.truncation.specs.Int.{intOf}
 
 -- What a literal does. `one` works on the top, `two` on the lower operand, which is the first, and the top. `unknown` is in no row.
 pub data Operation : Type 0 where
@@ -54,7 +49,7 @@ table =
 -- the row of a literal; one that is not in the table does nothing
 abbrev pub find : ℕ → List Row → Row
 find l [] = row l unknown 0 0
-find l (r ∷ rs) = pick (eqb l (r .literal)) r (find l rs)
+find l (r ∷ rs) = cond (eqb l (r .literal)) r (find l rs)
 
 unfoldable pub rowOf : ℕ → Row
 rowOf l = find l table

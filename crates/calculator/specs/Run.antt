@@ -3,10 +3,11 @@
 -- them. Report 0 has the list's length as position."
 use Prim.Native.Nat.{ℕ, _+_}
 use mathlib.Core.List.{List, [], _∷_}
+use mathlib.Core.Bool.{cond, _||_}
 use lib.Dec.{eqb}
 use Rattle.calculator.specs.declared.outcome.RunOutcome.{RunOutcome}
-use Rattle.calculator.specs.Literals.{pick}
-use Rattle.calculator.specs.Reports.{either, overLimits, tooManyLiterals}
+use Rattle.slots.specs.Reports.{overLimits}
+use Rattle.calculator.specs.Reports.{tooManyLiterals}
 use Rattle.calculator.specs.Operate.{operateOf}
 
 -- the literals that are left, after i of them, on the stack s at depth d
@@ -14,12 +15,12 @@ unfoldable pub goOn : List ℕ → ℕ → List ℕ → ℕ → RunOutcome × Li
 goOn [] i s d = (record { report = 0; position = i; depth = d }, s)
 goOn (l ∷ ls) i s d =
     let o = operateOf s d l in
-    pick (eqb (o .0 .report) 0)
+    cond (eqb (o .0 .report) 0)
     (goOn ls (i + 1) (o .1) (o .0 .depth))
     (record { report = o .0 .report; position = i; depth = d }, s)
 
 unfoldable pub runOf : List ℕ → ℕ → List ℕ → RunOutcome × List ℕ
 runOf s d ls =
-    pick (either (overLimits s d) (tooManyLiterals ls))
+    cond (overLimits s d || tooManyLiterals ls)
     (record { report = 1; position = 0; depth = d }, s)
     (goOn ls 0 s d)

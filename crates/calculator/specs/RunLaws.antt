@@ -7,8 +7,9 @@ use native.Mathlib.Numerals.{add-one}
 use lib.ListN.{length, getD, drop}
 use lib.Seq.{drop-cons, drop-length}
 use borrow.Author.Tests.{lt-ltb, le-ltb, eq-eqb, ne-eqb}
-use Rattle.calculator.specs.declared.outcome.Outcome.{Outcome}
-use Rattle.calculator.specs.Reports.{overLimits, tooManyLiterals}
+use Rattle.slots.specs.declared.outcome.Outcome.{Outcome}
+use Rattle.slots.specs.Reports.{overLimits}
+use Rattle.calculator.specs.Reports.{tooManyLiterals}
 use Rattle.calculator.specs.Operate.{operateOf}
 use Rattle.calculator.specs.OperateLaws.{operate-kept}
 use Rattle.calculator.specs.Run.{goOn, runOf}

@@ -1,28 +1,24 @@
 -- A rule of the table is a test that antt computes at each of its ten rows and at the row of a literal that is not in it.
 use Prim.Native.Nat.{ℕ}
-use mathlib.Core.Bool.{Bool, true, false}
+use mathlib.Core.Bool.{Bool, true, false, cond, _&&_}
 use mathlib.Core.List.{List, [], _∷_}
 use lib.Dec.{T, eqb}
-use Rattle.calculator.specs.Literals.{pick, unknown, Row, row, table, find, rowOf}
+use Rattle.calculator.specs.Literals.{unknown, Row, row, table, find, rowOf}
 
-abbrev both : Bool → Bool → Bool
-both true b = b
-both false b = false
-
-both-left : (a b : Bool) → T (both a b) → T a
+both-left : (a b : Bool) → T (a && b) → T a
 both-left true b t = tt
 both-left false b t = t
 
-both-right : (a b : Bool) → T (both a b) → T b
+both-right : (a b : Bool) → T (a && b) → T b
 both-right true b t = t
 both-right false b t = absurd t
 
 -- the test f passes at every row
 abbrev all : (Row → Bool) → List Row → Bool
 all f [] = true
-all f (r ∷ rs) = both (f r) (all f rs)
+all f (r ∷ rs) = f r && all f rs
 
-picked : (f : Row → Bool) (b : Bool) (r q : Row) → T (f r) → T (f q) → T (f (pick b r q))
+picked : (f : Row → Bool) (b : Bool) (r q : Row) → T (f r) → T (f q) → T (f (cond b r q))
 picked f true r q h k = h
 picked f false r q h k = k
 

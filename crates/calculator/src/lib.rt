@@ -1,22 +1,19 @@
 // The calculator of the ZX Spectrum, on a stack that the caller lends: any bytes, any depth, any literals.
-mod compute;
-mod display;
-mod displaying;
-mod limits;
 mod moving;
+mod one;
 mod operation;
 mod outcome;
-mod pushing;
+mod places;
 mod running;
-mod slots;
 mod table;
-mod viewing;
+mod two;
 
 pub use display::Cell;
-pub use displaying::cell;
+pub use display::cell;
 pub use operation::operate;
-pub use outcome::Outcome;
+pub use operation::operate_in_place;
 pub use outcome::RunOutcome;
-pub use pushing::push;
 pub use running::run;
-pub use viewing::view;
+pub use slots::Outcome;
+pub use slots::push;
+pub use slots::view;

@@ -1,47 +1,88 @@
 // One operation on the stack: the report that comes first, or the bytes and the depth that the literal leaves.
-use crate::compute;
-use crate::limits;
 use crate::moving;
-use crate::outcome::Outcome;
-use crate::table::LEAVES;
-use crate::table::TAKES;
+use crate::one;
+use crate::table;
+use crate::two;
+use slots::Outcome;
 ghost use mathlib.Core.Path.{_≡_};
-ghost use Rattle.calculator.specs.Operate.{operateOf};
-ghost use Rattle.calculator.specs.ReportLaws.{Within};
-ghost use Rattle.calculator.specs.Dispatch.{Stepped};
+ghost use Rattle.slots.specs.LimitLaws.{Within};
+ghost use Rattle.calculator.specs.Operate.{operateOf, outcome};
+ghost use Rattle.calculator.specs.Dispatch.{Moves, TakesTwo, Stepped};
 
 pub fn operate(stack: &mut [u8], depth: usize, literal: u8) -> Outcome
     ensures { λ r. ⌜ operateOf (now (stack .entry)) depth literal ≡ (r, now (stack .exit)) ⌝ }
 {
-    if limits::over_limits(stack, depth) {
-        return Outcome { report: 1, depth };
-    }
     let mut after = depth;
-    let report = step(stack, &mut after, literal);
+    let report = operate_in_place(stack, &mut after, literal);
     Outcome {
         report,
         depth: after,
     }
 }
 
+// The same with the depth moved where it stands: the report is all that is answered.
+pub fn operate_in_place(stack: &mut [u8], depth: &mut usize, literal: u8) -> u8
+    ensures { λ r. ⌜ operateOf (now (stack .entry)) (now (depth .entry)) literal ≡ (outcome r (now (depth .exit)), now (stack .exit)) ⌝ }
+{
+    if slots::over_limits(stack, *depth) {
+        return 1;
+    }
+    step(stack, depth, literal)
+}
+
 // An operation on a stack within its limits: its report, with the depth moved where it is 0. A run checks the limits once and then
-// calls this for each literal. The seven that compute are calls of their own from several arms, so that the compiler keeps their
-// frames out of this one.
+// calls this for each literal. The rows of the table are tried in three groups: here those that move numbers as they are.
 pub(crate) fn step(stack: &mut [u8], depth: &mut usize, literal: u8) -> u8
     requires { ⌜ Within (now stack) (now depth) ⌝ }
     ensures { λ r. ⌜ Stepped (now (stack .entry)) (now (depth .entry)) literal r (now (depth .exit)) (now (stack .exit)) ⌝ }
 {
-    match literal {
-        1 => moving::exchange(stack, depth, TAKES[0], LEAVES[0]),
-        2 => moving::delete(depth, TAKES[1], LEAVES[1]),
-        3 => compute::two(stack, depth, 3, TAKES[2], LEAVES[2]),
-        5 => compute::two(stack, depth, 5, TAKES[3], LEAVES[3]),
-        15 => compute::two(stack, depth, 15, TAKES[4], LEAVES[4]),
-        27 => compute::one(stack, depth, 27, TAKES[5], LEAVES[5]),
-        39 => compute::one(stack, depth, 39, TAKES[6], LEAVES[6]),
-        49 => moving::duplicate(stack, depth, TAKES[7], LEAVES[7]),
-        58 => compute::one(stack, depth, 58, TAKES[8], LEAVES[8]),
-        61 => compute::one(stack, depth, 61, TAKES[9], LEAVES[9]),
-        _ => 5,
+    if literal == table::EXCHANGE.literal {
+        return moving::exchange(stack, depth, table::EXCHANGE.takes, table::EXCHANGE.leaves);
     }
+    if literal == table::DELETE.literal {
+        return moving::delete(depth, table::DELETE.takes, table::DELETE.leaves);
+    }
+    if literal == table::DUPLICATE.literal {
+        return moving::duplicate(stack, depth, table::DUPLICATE.takes, table::DUPLICATE.leaves);
+    }
+    step_two(stack, depth, literal)
+}
+
+// Those that take two numbers and look at their forms.
+fn step_two(stack: &mut [u8], depth: &mut usize, literal: u8) -> u8
+    requires { ⌜ Within (now stack) (now depth) ⌝ }
+    requires { ⌜ (Moves literal → ⊥) ⌝ }
+    ensures { λ r. ⌜ Stepped (now (stack .entry)) (now (depth .entry)) literal r (now (depth .exit)) (now (stack .exit)) ⌝ }
+{
+    if literal == table::SUBTRACT.literal {
+        return two::two(stack, depth, literal, table::SUBTRACT.takes, table::SUBTRACT.leaves);
+    }
+    if literal == table::DIVIDE.literal {
+        return two::two(stack, depth, literal, table::DIVIDE.takes, table::DIVIDE.leaves);
+    }
+    if literal == table::ADD.literal {
+        return two::two(stack, depth, literal, table::ADD.takes, table::ADD.leaves);
+    }
+    step_one(stack, depth, literal)
+}
+
+// Those that take one; any other literal is not in the table.
+fn step_one(stack: &mut [u8], depth: &mut usize, literal: u8) -> u8
+    requires { ⌜ Within (now stack) (now depth) ⌝ }
+    requires { ⌜ (Moves literal → ⊥) × (TakesTwo literal → ⊥) ⌝ }
+    ensures { λ r. ⌜ Stepped (now (stack .entry)) (now (depth .entry)) literal r (now (depth .exit)) (now (stack .exit)) ⌝ }
+{
+    if literal == table::NEGATE.literal {
+        return one::one(stack, depth, literal, table::NEGATE.takes, table::NEGATE.leaves);
+    }
+    if literal == table::INT.literal {
+        return one::one(stack, depth, literal, table::INT.takes, table::INT.leaves);
+    }
+    if literal == table::TRUNCATE.literal {
+        return one::one(stack, depth, literal, table::TRUNCATE.takes, table::TRUNCATE.leaves);
+    }
+    if literal == table::RE_STACK.literal {
+        return one::one(stack, depth, literal, table::RE_STACK.takes, table::RE_STACK.leaves);
+    }
+    5
 }

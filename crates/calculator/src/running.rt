@@ -1,5 +1,4 @@
 // A run: a list of literals, done in turn until one is refused.
-use crate::limits;
 use crate::operation;
 use crate::outcome::RunOutcome;
 ghost use mathlib.Core.Path.{_≡_};
@@ -15,7 +14,7 @@ struct Stop {
 pub fn run(stack: &mut [u8], depth: usize, literals: &[u8]) -> RunOutcome
     ensures { λ r. ⌜ runOf (now (stack .entry)) depth (now (literals .entry)) ≡ (r, now (stack .exit)) ⌝ }
 {
-    if limits::over_limits(stack, depth) {
+    if slots::over_limits(stack, depth) {
         return RunOutcome {
             report: 1,
             position: 0,

@@ -1,7 +1,67 @@
-// The table of the ten literals: how many numbers each takes and leaves. The checks read a row at its number, so that the compiler
+// The table of the ten literals, a row each: the literal, how many numbers it takes, how many it leaves. The checks read it, and the compiler
 // folds the reads.
+pub struct Row {
+    pub literal: u8,
+    pub takes: usize,
+    pub leaves: usize,
+}
 
-//                              1  2  3  5 15 27 39 49 58 61
-pub const TAKES: [usize; 10] = [2, 1, 2, 2, 2, 1, 1, 1, 1, 1];
+pub const EXCHANGE: Row = Row {
+    literal: 1,
+    takes: 2,
+    leaves: 2,
+};
 
-pub const LEAVES: [usize; 10] = [2, 0, 1, 1, 1, 1, 1, 2, 1, 1];
+pub const DELETE: Row = Row {
+    literal: 2,
+    takes: 1,
+    leaves: 0,
+};
+
+pub const SUBTRACT: Row = Row {
+    literal: 3,
+    takes: 2,
+    leaves: 1,
+};
+
+pub const DIVIDE: Row = Row {
+    literal: 5,
+    takes: 2,
+    leaves: 1,
+};
+
+pub const ADD: Row = Row {
+    literal: 15,
+    takes: 2,
+    leaves: 1,
+};
+
+pub const NEGATE: Row = Row {
+    literal: 27,
+    takes: 1,
+    leaves: 1,
+};
+
+pub const INT: Row = Row {
+    literal: 39,
+    takes: 1,
+    leaves: 1,
+};
+
+pub const DUPLICATE: Row = Row {
+    literal: 49,
+    takes: 1,
+    leaves: 2,
+};
+
+pub const TRUNCATE: Row = Row {
+    literal: 58,
+    takes: 1,
+    leaves: 1,
+};
+
+pub const RE_STACK: Row = Row {
+    literal: 61,
+    takes: 1,
+    leaves: 1,
+};

@@ -1,34 +1,94 @@
--- A law for each case of `formOf`.
-use mathlib.Core.Path.{_≡_}
+-- A law for each case of `formOf`, by the word.
+use Prim.Native.Nat.{_^_, _/_, _*_, _+_, _≤_, _<_}
+use mathlib.Core.Path.{_≡_, refl, ap, subst}
+use mathlib.Core.Logic.{_⊎_, inl, inr}
+use mathlib.Core.Bool.{Bool, true, false, cond}
 use native.Mathlib.Omega.{arith}
-use borrow.Author.Tests.{lt-ltb, le-ltb, eq-eqb, ne-eqb}
+use borrow.Author.Tests.{lt-ltb, le-ltb, eq-eqb, ne-eqb, ltb-true, ltb-false, eqb-true}
+use lib.Dec.{ltb, eqb}
 use Rattle.number.specs.declared.Number.{Number}
+use Rattle.number.specs.declared.form.Form.{Form}
 use Rattle.number.specs.declared.form.Form.the-variants.{Full, Short, Odd, Malformed}
-use Rattle.number.specs.Number.{formOf}
+use Rattle.number.specs.Number.{b2, b3, b4, low, formOf, isMalformed, malformed}
 
-pub form-full : (x : Number) → (x .b1 ≡ 0 → ⊥) → formOf x ≡ Full
-unfolding formOf
-form-full x h = simp (lt-ltb 0 (x .b1) (omega arith))
-
-pub form-short : (x : Number) → x .b1 ≡ 0 → x .b2 ≡ 0 → formOf x ≡ Short
-unfolding formOf
-form-short x h g = simp (le-ltb 0 (x .b1) (omega arith), eq-eqb _ _ g)
-
-pub form-malformed : (x : Number) → x .b1 ≡ 0 → (x .b2 ≡ 0 → ⊥) → (x .b2 ≡ 255 → ⊥) → formOf x ≡ Malformed
-unfolding formOf
-form-malformed x h g k = simp (le-ltb 0 (x .b1) (omega arith), ne-eqb _ _ g, ne-eqb _ _ k)
-
-module _ (x : Number) (h : x .b1 ≡ 0) (g : x .b2 ≡ 255) where
-  pub form-short-b3 : (x .b3 ≡ 0 → ⊥) → formOf x ≡ Short
+module _ (x : Number) where
+  pub form-full : (x .b1 ≡ 0 → ⊥) → formOf x ≡ Full
   unfolding formOf
-  form-short-b3 k = simp (le-ltb 0 (x .b1) (omega arith), ne-eqb (x .b2) 0 (omega arith), eq-eqb _ _ g, ne-eqb _ _ k)
+  form-full h = simp (lt-ltb 0 (x .b1) (omega arith))
 
-  pub form-short-b4 : x .b3 ≡ 0 → (x .b4 ≡ 0 → ⊥) → formOf x ≡ Short
-  unfolding formOf
-  form-short-b4 k l =
-      simp (le-ltb 0 (x .b1) (omega arith), ne-eqb (x .b2) 0 (omega arith), eq-eqb _ _ g, eq-eqb _ _ k, ne-eqb _ _ l)
+  module _ (h : x .b1 ≡ 0) where
+    pub form-short : x .word < 2 ^ 24 → formOf x ≡ Short
+    unfolding formOf
+    form-short g = simp (le-ltb 0 (x .b1) (omega arith), eq-eqb (b2 x) 0 (omega arith))
 
-  pub form-odd : x .b3 ≡ 0 → x .b4 ≡ 0 → formOf x ≡ Odd
-  unfolding formOf
-  form-odd k l =
-      simp (le-ltb 0 (x .b1) (omega arith), ne-eqb (x .b2) 0 (omega arith), eq-eqb _ _ g, eq-eqb _ _ k, eq-eqb _ _ l)
+    pub form-malformed : 2 ^ 24 ≤ x .word → x .word < 255 * 2 ^ 24 → formOf x ≡ Malformed
+    unfolding formOf
+    form-malformed g k = simp (le-ltb 0 (x .b1) (omega arith), ne-eqb (b2 x) 0 (omega arith), ne-eqb (b2 x) 255 (omega arith))
+
+    module _ (g : 255 * 2 ^ 24 ≤ x .word) where
+      pub form-odd : x .word < 255 * 2 ^ 24 + 256 → formOf x ≡ Odd
+      unfolding formOf
+      form-odd k =
+          simp (
+            le-ltb 0 (x .b1) (omega arith),
+            ne-eqb (b2 x) 0 (omega arith),
+            eq-eqb (b2 x) 255 (omega arith),
+            eq-eqb (b3 x) 0 (omega arith),
+            eq-eqb (b4 x) 0 (omega arith),
+          )
+
+      pub form-negative : 255 * 2 ^ 24 + 256 ≤ x .word → x .word < 2 ^ 32 → formOf x ≡ Short
+      unfolding formOf
+      form-negative k l =
+          simp (le-ltb 0 (x .b1) (omega arith), ne-eqb (b2 x) 0 (omega arith), eq-eqb (b2 x) 255 (omega arith)) (go (eqb (b3 x) 0) refl)
+        where
+          go : (t : Bool) → eqb (b3 x) 0 ≡ t → cond t (cond (eqb (b4 x) 0) Odd Short) Short ≡ Short
+          go true e = simp (ne-eqb (b4 x) 0 (omega (arith, eqb-true (b3 x) 0 e)))
+          go false e = refl
+
+-- ---- malformed or not
+
+module _ (x : Number) where
+  form-malformed-is : {f : Form} → formOf x ≡ f → malformed x ≡ isMalformed f
+  unfolding malformed
+  form-malformed-is h = ap isMalformed h
+
+  pub malformed-full : (x .b1 ≡ 0 → ⊥) → malformed x ≡ false
+  malformed-full h = form-malformed-is (form-full x h)
+
+  module _ (h : x .b1 ≡ 0) where
+    pub malformed-short : x .word < 2 ^ 24 → malformed x ≡ false
+    malformed-short g = form-malformed-is (form-short x h g)
+
+    pub malformed-between : 2 ^ 24 ≤ x .word → x .word < 255 * 2 ^ 24 → malformed x ≡ true
+    malformed-between g k = form-malformed-is (form-malformed x h g k)
+
+    pub malformed-negative : 255 * 2 ^ 24 ≤ x .word → x .word < 2 ^ 32 → malformed x ≡ false
+    malformed-negative g k = go (ltb (x .word) (255 * 2 ^ 24 + 256)) refl
+      where
+        go : (t : Bool) → ltb (x .word) (255 * 2 ^ 24 + 256) ≡ t → malformed x ≡ false
+        go true e = form-malformed-is (form-odd x h g (ltb-true _ _ e))
+        go false e = form-malformed-is (form-negative x h g (ltb-false _ _ e) k)
+
+-- What the form says of the bytes, where a law asks for it.
+abbrev pub FormBytes : Number → Form → Type 0
+FormBytes x Full = 0 < x .b1
+FormBytes x Short = (x .b1 ≡ 0) × ((b2 x ≡ 0) ⊎ (b2 x ≡ 255))
+FormBytes x Odd = (x .b1 ≡ 0) × (b2 x ≡ 255) × (low x ≡ 0)
+FormBytes x Malformed = x .b1 ≡ 0
+
+form-says : (x : Number) → FormBytes x (formOf x)
+unfolding formOf
+form-says x = go (ltb 0 (x .b1)) (eqb (b2 x) 0) (eqb (b2 x) 255) (eqb (b3 x) 0) (eqb (b4 x) 0) refl refl refl refl refl
+  where
+    go : (f s n o p : Bool) → ltb 0 (x .b1) ≡ f → eqb (b2 x) 0 ≡ s → eqb (b2 x) 255 ≡ n → eqb (b3 x) 0 ≡ o → eqb (b4 x) 0 ≡ p
+        → FormBytes x (cond f Full (cond s Short (cond n (cond o (cond p Odd Short) Short) Malformed)))
+    go true s n o p a b c d e = ltb-true _ _ a
+    go false true n o p a b c d e = (omega (arith, ltb-false), inl (eqb-true _ _ b))
+    go false false true true true a b c d e = (omega (arith, ltb-false), eqb-true _ _ c, omega (arith, eqb-true (b3 x) 0 d, eqb-true (b4 x) 0 e))
+    go false false true true false a b c d e = (omega (arith, ltb-false), inr (eqb-true _ _ c))
+    go false false true false p a b c d e = (omega (arith, ltb-false), inr (eqb-true _ _ c))
+    go false false false o p a b c d e = omega (arith, ltb-false)
+
+pub form-bytes : (x : Number) (f : Form) → formOf x ≡ f → FormBytes x f
+form-bytes x f h = subst (FormBytes x) h (form-says x)

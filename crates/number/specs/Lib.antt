@@ -9,8 +9,4 @@ pub mod RestackValue
 pub mod Unpack
 pub mod Negate
 pub mod NegateLaws
-pub mod Truncate
-pub mod TruncateLaws
-pub mod TruncateValue
-pub mod Double
 pub mod Sums

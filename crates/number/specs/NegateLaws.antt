@@ -1,31 +1,55 @@
 -- A law for each case of negation.
-use Prim.Native.Nat.{_-_}
-use mathlib.Core.Path.{_≡_, sym, _∙_, ap}
-use mathlib.Core.Bool.{true, false}
+use Prim.Native.Nat.{_-_, _≤_, _<_}
+use mathlib.Core.Path.{_≡_, refl, sym, _∙_, ap}
+use mathlib.Core.Logic.{inr}
+use mathlib.Core.Bool.{false}
 use native.Mathlib.Omega.{arith}
+use borrow.Author.Tests.{ne-eqb}
 use lib.IntN.{negℤ}
 use Rattle.number.specs.declared.Number.{Number}
 use Rattle.number.specs.declared.form.Form.{Form}
-use Rattle.number.specs.declared.form.Form.the-variants.{Short}
-use Rattle.number.specs.Number.{formOf, sign, shortMagnitude, passesZeroTest}
-use Rattle.number.specs.NumberLaws.{Bytes, short-magnitude-lt}
+use Rattle.number.specs.declared.form.Form.the-variants.{Full, Short, Odd, Malformed}
+use Rattle.number.specs.Number.{formOf, b2, low, sign, shortMagnitude, shortOf, zeros, passesZeroTest}
+use Rattle.number.specs.NumberLaws.{Bytes, magnitude-lt, zero-passes, full-fails, some-fails}
+use Rattle.number.specs.FormLaws.{form-full, form-bytes}
 use Rattle.number.specs.Value.{shortValue}
 use Rattle.number.specs.ValueLaws.{short-value, short-of-value, signed-other}
 use Rattle.number.specs.Negate.{negatedAs, negated}
 
 module _ (x : Number) where
-  pub negate-zero : passesZeroTest x ≡ true → negated x ≡ x
-  unfolding negated
-  negate-zero z = simp z
-
-  pub negate-as : passesZeroTest x ≡ false → (f : Form) → formOf x ≡ f → negated x ≡ negatedAs f x
+  negate-as : passesZeroTest x ≡ false → (f : Form) → formOf x ≡ f → negated x ≡ negatedAs f x
   unfolding negated
   negate-as z f h = simp z (ap (λ (g : Form). negatedAs g x) h)
 
+  pub negate-full : (x .b1 ≡ 0 → ⊥) → negated x ≡ negatedAs Full x
+  negate-full h = negate-as (full-fails x h) Full (form-full x h)
+
+  module _ (h : x .b1 ≡ 0) where
+    pub negate-zero : x .word < 256 → negated x ≡ x
+    unfolding negated
+    negate-zero g = simp (zero-passes x h g)
+
+    -- of odd, two's complement gives the magnitude 0
+    pub negate-short : 256 ≤ x .word → negated x ≡ shortOf (1 - sign x) (shortMagnitude x)
+    negate-short g = go (formOf x) refl
+      where
+        z : passesZeroTest x ≡ false
+        z = some-fails x h g
+
+        go : (f : Form) → formOf x ≡ f → negated x ≡ shortOf (1 - sign x) (shortMagnitude x)
+        go Full e = absurd (omega (arith, form-bytes x Full e))
+        go Short e = negate-as z Short e
+        go Odd e =
+            let f = form-bytes x Odd e in
+            let one : 1 - sign x ≡ 0 = omega arith in
+            let none : shortMagnitude x ≡ 0 = simp (ne-eqb (sign x) 0 (omega arith)) (omega arith) in
+            negate-as z Odd e ∙ sym (ap (λ s. shortOf s (shortMagnitude x)) one ∙ ap (shortOf 0) none)
+        go Malformed e = negate-as z Malformed e
+
 -- "other shorts change sign", over whole numbers
-pub negate-value : (x : Number) → Bytes x → formOf x ≡ Short → (shortMagnitude x ≡ 0 → ⊥) → passesZeroTest x ≡ false → shortValue (negated x) ≡ negℤ (shortValue x)
-negate-value x b h n z =
-    ap shortValue (negate-as x z Short h)
-    ∙ short-of-value (1 - sign x) (shortMagnitude x) (omega arith) (short-magnitude-lt x b)
+pub negate-value : (x : Number) → Bytes x → x .b1 ≡ 0 → 0 < shortMagnitude x → 256 ≤ x .word → shortValue (negated x) ≡ negℤ (shortValue x)
+negate-value x b h n g =
+    ap shortValue (negate-short x h g)
+    ∙ short-of-value (1 - sign x) (shortMagnitude x) (omega arith) n (magnitude-lt x)
     ∙ signed-other (sign x) (shortMagnitude x) (omega arith)
-    ∙ ap negℤ (sym (short-value x b h))
+    ∙ ap negℤ (sym (short-value x b (inr n)))

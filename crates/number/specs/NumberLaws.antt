@@ -1,38 +1,21 @@
 -- What a number's parts are, for bytes that are bytes.
 use Prim.Native.Nat.{ℕ, _+_, _*_, _^_, _/_, _%_, _≤_, _<_}
-use mathlib.Core.Path.{_≡_, refl, sym, _∙_, ap, subst}
+use mathlib.Core.Path.{_≡_, refl, sym, _∙_, ap, ap₂}
 use mathlib.Core.Logic.{_⊎_, inl, inr}
-use mathlib.Core.Bool.{Bool, true, false, cond}
+use mathlib.Core.Bool.{Bool, true, false, cond, _&&_}
 use native.Mathlib.Nat.{div-div-eq-div-mul}
 use native.Mathlib.Omega.{arith}
-use borrow.Author.Tests.{ltb-true, ltb-false, eqb-true, eqb-false, eq-eqb, ne-eqb}
-use lib.Dec.{ltb, eqb}
+use borrow.Author.Tests.{eqb-true, eqb-false, eq-eqb, ne-eqb}
+use lib.Dec.{eqb}
 use Rattle.number.specs.declared.Number.{Number}
-use Rattle.number.specs.declared.form.Form.{Form}
-use Rattle.number.specs.declared.form.Form.the-variants.{Full, Short, Odd, Malformed}
-use Rattle.number.specs.Number.{formOf, sign, mantissa, fullOf, low, complementOf, shortMagnitude, halves, shortOf}
+use Rattle.number.specs.Number.{b2, b3, b4, sign, mantissa, fullOf, low, complementOf, shortMagnitude, halves, shortOf, passesZeroTest}
 
 pub record Bytes (x : Number) : Type 0 where
   pub b1< : x .b1 < 256
-  pub b2< : x .b2 < 256
-  pub b3< : x .b3 < 256
-  pub b4< : x .b4 < 256
-  pub b5< : x .b5 < 256
-
--- "whole numbers from 2^31 to 2^32 - 1"
-pub mantissa-range : (x : Number) → Bytes x → (2 ^ 31 ≤ mantissa x) × (mantissa x < 2 ^ 32)
-mantissa-range x b = omega arith
+  pub word< : x .word < 2 ^ 32
 
 pub mantissa-full : (s e m : ℕ) → 2 ^ 31 ≤ m → m < 2 ^ 32 → mantissa (fullOf s e m) ≡ m
-mantissa-full s e m h g =
-    let a = m / 2 ^ 8 in
-    let b = a / 2 ^ 8 in
-    let c = b / 2 ^ 8 in
-    let two : m / 2 ^ 16 ≡ b = sym (div-div-eq-div-mul m (2 ^ 8) (2 ^ 8)) in
-    let three : m / 2 ^ 24 ≡ c = sym (div-div-eq-div-mul m (2 ^ 16) (2 ^ 8)) ∙ ap (λ (k : ℕ). k / 2 ^ 8) two in
-    let top : (c % 128 + 128 * (s % 2)) % 128 + 128 ≡ c = omega arith in
-    let sum : c * 2 ^ 24 + b % 256 * 2 ^ 16 + a % 256 * 2 ^ 8 + m % 256 ≡ m = omega arith in
-    rw (two, three, top) sum
+mantissa-full s e m h g = omega arith
 
 pub sign-full : (s e m : ℕ) → s < 2 → sign (fullOf s e m) ≡ s
 sign-full s e m h = omega arith
@@ -44,40 +27,55 @@ short-b1 s v = go (eqb s 0)
     go true = refl
     go false = refl
 
--- What the form says of the bytes. A short number's sign byte is 00, or FF over a low half that is not zero.
-abbrev pub FormBytes : Number → Form → Type 0
-FormBytes x Full = 0 < x .b1
-FormBytes x Short = (x .b1 ≡ 0) × ((x .b2 ≡ 0) ⊎ ((x .b2 ≡ 255) × (0 < low x)))
-FormBytes x Odd = (x .b1 ≡ 0) × (x .b2 ≡ 255) × (low x ≡ 0)
-FormBytes x Malformed = (x .b1 ≡ 0) × (x .b2 ≡ 0 → ⊥) × (x .b2 ≡ 255 → ⊥)
+-- the next byte up
+pub places : (w : ℕ) → (w / 2 ^ 16 ≡ w / 2 ^ 8 / 2 ^ 8) × (w / 2 ^ 24 ≡ w / 2 ^ 16 / 2 ^ 8)
+places w = (sym (div-div-eq-div-mul w (2 ^ 8) (2 ^ 8)), sym (div-div-eq-div-mul w (2 ^ 16) (2 ^ 8)))
 
-form-says : (x : Number) → FormBytes x (formOf x)
-unfolding formOf
-form-says x = go (ltb 0 (x .b1)) (eqb (x .b2) 0) (eqb (x .b2) 255) (eqb (x .b3) 0) (eqb (x .b4) 0) refl refl refl refl refl
+-- what is written as a low half is read as one
+pub low-halves : (b h : ℕ) → h < 2 ^ 16 → low (halves b h) ≡ h
+low-halves b h g =
+    let w = halves b h .word in
+    let one : w / 2 ^ 8 ≡ b * 2 ^ 16 + h % 256 * 2 ^ 8 + h / 256 = omega arith in
+    let two : w / 2 ^ 16 ≡ b * 2 ^ 8 + h % 256 = places w .0 ∙ ap (λ (k : ℕ). k / 2 ^ 8) one ∙ omega arith in
+    let high : w / 2 ^ 8 % 256 ≡ h / 256 = ap (λ (k : ℕ). k % 256) one ∙ omega arith in
+    let lowest : w / 2 ^ 16 % 256 ≡ h % 256 = ap (λ (k : ℕ). k % 256) two ∙ omega arith in
+    ap₂ (λ (i j : ℕ). 256 * i + j) high lowest ∙ omega arith
+
+-- how far a short number is from zero, by its sign
+pub magnitude-cases : (x : Number) → Bytes x → ((sign x ≡ 0) × (shortMagnitude x ≡ low x)) ⊎ ((sign x ≡ 1) × (shortMagnitude x ≡ complementOf (low x)))
+magnitude-cases x b = go (eqb (sign x) 0) refl
   where
-    go : (f s n o p : Bool) → ltb 0 (x .b1) ≡ f → eqb (x .b2) 0 ≡ s → eqb (x .b2) 255 ≡ n → eqb (x .b3) 0 ≡ o → eqb (x .b4) 0 ≡ p
-        → FormBytes x (cond f Full (cond s Short (cond n (cond o (cond p Odd Short) Short) Malformed)))
-    go true s n o p a b c d e = ltb-true _ _ a
-    go false true n o p a b c d e = (omega (arith, ltb-false), inl (eqb-true _ _ b))
-    go false false true true true a b c d e = (omega (arith, ltb-false), eqb-true _ _ c, omega (arith, eqb-true (x .b3) 0 d, eqb-true (x .b4) 0 e))
-    go false false true true false a b c d e = (omega (arith, ltb-false), inr (eqb-true _ _ c, omega (arith, eqb-false (x .b4) 0 e)))
-    go false false true false p a b c d e = (omega (arith, ltb-false), inr (eqb-true _ _ c, omega (arith, eqb-false (x .b3) 0 d)))
-    go false false false o p a b c d e = (omega (arith, ltb-false), eqb-false _ _ b, eqb-false _ _ c)
+    go : (z : Bool) → eqb (sign x) 0 ≡ z
+        → ((sign x ≡ 0) × (cond z (low x) (complementOf (low x)) ≡ low x)) ⊎ ((sign x ≡ 1) × (cond z (low x) (complementOf (low x)) ≡ complementOf (low x)))
+    go true e = inl (eqb-true _ _ e, refl)
+    go false e = inr (omega (arith, eqb-false (sign x) 0 e), refl)
 
-pub form-bytes : (x : Number) (f : Form) → formOf x ≡ f → FormBytes x f
-form-bytes x f h = subst (FormBytes x) h (form-says x)
-
--- of a short number: its magnitude by its sign
-pub short-magnitude : (x : Number) → Bytes x → formOf x ≡ Short → ((sign x ≡ 0) × (shortMagnitude x ≡ low x)) ⊎ ((sign x ≡ 1) × (shortMagnitude x + low x ≡ 2 ^ 16))
-short-magnitude x b h = go (form-bytes x Short h .1)
-  where
-    go : (x .b2 ≡ 0) ⊎ ((x .b2 ≡ 255) × (0 < low x)) → ((sign x ≡ 0) × (shortMagnitude x ≡ low x)) ⊎ ((sign x ≡ 1) × (shortMagnitude x + low x ≡ 2 ^ 16))
-    go (inl z) = let s : sign x ≡ 0 = omega arith in inl (s, simp (eq-eqb _ _ s))
-    go (inr n) = let s : sign x ≡ 1 = omega arith in inr (s, simp (ne-eqb (sign x) 0 (omega arith)) (omega arith))
-
-pub short-magnitude-lt : (x : Number) → Bytes x → shortMagnitude x < 2 ^ 16
-short-magnitude-lt x b = go (eqb (sign x) 0)
+pub magnitude-lt : (x : Number) → shortMagnitude x < 2 ^ 16
+magnitude-lt x = go (eqb (sign x) 0)
   where
     go : (z : Bool) → cond z (low x) (complementOf (low x)) < 2 ^ 16
     go true = omega arith
     go false = omega arith
+
+-- the zero test, by the word
+module _ (x : Number) where
+  pub zero-passes : x .b1 ≡ 0 → x .word < 256 → passesZeroTest x ≡ true
+  unfolding passesZeroTest
+  zero-passes h g = simp (eq-eqb (x .b1) 0 h, eq-eqb (b2 x) 0 (omega arith), eq-eqb (b3 x) 0 (omega arith), eq-eqb (b4 x) 0 (omega arith))
+
+  pub full-fails : (x .b1 ≡ 0 → ⊥) → passesZeroTest x ≡ false
+  unfolding passesZeroTest
+  full-fails h = simp (ne-eqb (x .b1) 0 h)
+
+  pub some-fails : x .b1 ≡ 0 → 256 ≤ x .word → passesZeroTest x ≡ false
+  unfolding passesZeroTest
+  some-fails h g = simp (eq-eqb (x .b1) 0 h) (go (eqb (b2 x) 0) (eqb (b3 x) 0) refl refl)
+    where
+      go : (p q : Bool) → eqb (b2 x) 0 ≡ p → eqb (b3 x) 0 ≡ q → p && (q && eqb (b4 x) 0) ≡ false
+      go true true e f =
+          let p = places (x .word) in
+          let two : x .word / 2 ^ 16 ≡ 0 = omega (arith, p .1, eqb-true (b2 x) 0 e, eqb-true (b3 x) 0 f) in
+          let less : x .word / 2 ^ 8 < 256 = omega (arith, p .0) in
+          ne-eqb (b4 x) 0 (omega arith)
+      go true false e f = refl
+      go false q e f = refl

@@ -1,19 +1,39 @@
 -- A law for each case of re-stacking.
-use mathlib.Core.Path.{_≡_, _∙_, ap}
+use Prim.Native.Nat.{_<_}
+use mathlib.Core.Path.{_≡_, refl, sym, _∙_, ap}
+use mathlib.Core.Logic.{_⊎_, inl, inr}
+use native.Mathlib.Omega.{arith}
 use borrow.Author.Tests.{eq-eqb, ne-eqb}
 use Rattle.number.specs.declared.Number.{Number}
 use Rattle.number.specs.declared.form.Form.{Form}
-use Rattle.number.specs.declared.form.Form.the-variants.{Short}
-use Rattle.number.specs.Number.{zeros, sign, shortMagnitude, formOf}
-use Rattle.number.specs.Restack.{fullOfShort, restackedAs, restacked}
+use Rattle.number.specs.declared.form.Form.the-variants.{Full, Short, Odd, Malformed}
+use Rattle.number.specs.Number.{zeros, b2, sign, low, complementOf, shortMagnitude, formOf}
+use Rattle.number.specs.FormLaws.{form-full, form-bytes}
+use Rattle.number.specs.Restack.{fullOfShort, shortRestacked, restackedAs, restacked}
 
 module _ (x : Number) where
-  pub restack-as : (f : Form) → formOf x ≡ f → restacked x ≡ restackedAs f x
+  restack-as : (f : Form) → formOf x ≡ f → restacked x ≡ restackedAs f x
   unfolding restacked
   restack-as f h = ap (λ (g : Form). restackedAs g x) h
 
-  pub restack-short : formOf x ≡ Short → (shortMagnitude x ≡ 0 → ⊥) → restacked x ≡ fullOfShort (sign x) (shortMagnitude x)
-  restack-short h g = restack-as Short h ∙ simp (ne-eqb _ _ g)
+  pub restack-full : (x .b1 ≡ 0 → ⊥) → restacked x ≡ x
+  restack-full h = restack-as Full (form-full x h)
 
-  pub restack-short-zero : formOf x ≡ Short → shortMagnitude x ≡ 0 → restacked x ≡ zeros
-  restack-short-zero h g = restack-as Short h ∙ simp (eq-eqb _ _ g)
+  -- of odd, two's complement gives the magnitude 0
+  odd-none : formOf x ≡ Odd → shortMagnitude x ≡ 0
+  odd-none h = let f = form-bytes x Odd h in simp (ne-eqb (sign x) 0 (omega arith)) (omega arith)
+
+  short-restacked : x .b1 ≡ 0 → restacked x ≡ shortRestacked x
+  short-restacked h = go (formOf x) refl
+    where
+      go : (f : Form) → formOf x ≡ f → restacked x ≡ shortRestacked x
+      go Full e = absurd (omega (arith, form-bytes x Full e))
+      go Short e = restack-as Short e
+      go Odd e = restack-as Odd e ∙ sym (simp (eq-eqb _ _ (odd-none e)))
+      go Malformed e = restack-as Malformed e
+
+  pub restack-some : x .b1 ≡ 0 → (shortMagnitude x ≡ 0 → ⊥) → restacked x ≡ fullOfShort (sign x) (shortMagnitude x)
+  restack-some h g = short-restacked h ∙ simp (ne-eqb _ _ g)
+
+  pub restack-zero : x .b1 ≡ 0 → shortMagnitude x ≡ 0 → restacked x ≡ zeros
+  restack-zero h g = short-restacked h ∙ simp (eq-eqb _ _ g)

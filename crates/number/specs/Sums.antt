@@ -1,12 +1,10 @@
--- Worked examples, by computation: the rows of document 01's sums that truncation alone decides, the exponent bytes 128, 129, 144, 145, 159 and
--- 160, and the forms under re-stacking and negation.
+-- Worked examples, by computation: the forms under re-stacking and negation.
 use mathlib.Core.Path.{_≡_, refl}
 use mathlib.Core.List.{List, [], _∷_, map}
 use Rattle.number.specs.declared.Number.{Number}
 use Rattle.number.specs.Number.{bytes, zeros, formOf, passesZeroTest}
 use Rattle.number.specs.Restack.{restacked, fullOfShort}
 use Rattle.number.specs.Negate.{negated}
-use Rattle.number.specs.Truncate.{truncated, truncatedFull, taken65536}
 use lib.Count.{leadingZeros}
 
 pub record Case : Type 0 where
@@ -21,24 +19,6 @@ givens l = map (λ c. c .given) l
 
 abbrev answers : List Case → List Number
 answers l = map (λ c. c .answer) l
-
-abbrev pub truncations : List Case
-truncations =
-    case (bytes 0x91 0x80 0x00 0x80 0x00) (bytes 0x91 0x80 0x00 0x80 0x00)
-    ∷ case (bytes 0x91 0x80 0x00 0x7F 0xFF) (bytes 0x00 0xFF 0x00 0x00 0x00)
-    ∷ case (bytes 0x91 0x00 0x00 0x7F 0xFF) (bytes 0x91 0x00 0x00 0x00 0x00)
-    ∷ case (bytes 0x80 0x7F 0xFF 0xFF 0xFF) zeros
-    ∷ case (bytes 0x81 0x80 0x00 0x00 0x01) (bytes 0x00 0xFF 0xFF 0xFF 0x00)
-    ∷ case (bytes 0x90 0x7F 0xFF 0xFF 0xFF) (bytes 0x00 0x00 0xFF 0xFF 0x00)
-    ∷ case (bytes 0x90 0xFF 0xFF 0x80 0x00) (bytes 0x00 0xFF 0x01 0x00 0x00)
-    ∷ case (bytes 0x9F 0x00 0x00 0x00 0x03) (bytes 0x9F 0x00 0x00 0x00 0x02)
-    ∷ case (bytes 0xA0 0x00 0x00 0x00 0x03) (bytes 0xA0 0x00 0x00 0x00 0x03)
-    ∷ case (bytes 0x00 0xFF 0x00 0x00 0x07) (bytes 0x00 0xFF 0x00 0x00 0x07)
-    ∷ []
-
-pub truncations-hold : map truncated (givens truncations) ≡ answers truncations
-unfolding truncated truncatedFull taken65536 formOf
-truncations-hold = refl
 
 abbrev pub restackings : List Case
 restackings =

@@ -1,39 +1,43 @@
 -- Short values by sign and magnitude, and products with a sign.
 use Prim.Native.Nat.{ℕ, zero, suc, _+_, _*_, _-_, _^_, _/_, _%_, _<_}
-use mathlib.Core.Path.{_≡_, refl, sym, _∙_, ap}
+use mathlib.Core.Path.{_≡_, refl, sym, _∙_, ap, ap₂}
 use mathlib.Core.Logic.{_⊎_, inl, inr}
 use mathlib.Core.Bool.{cond}
-use borrow.Author.Tests.{lt-ltb, ne-eqb}
+use borrow.Author.Tests.{lt-ltb, ne-eqb, eq-eqb}
 use native.Mathlib.Nat.{add-zero, zero-mul}
 use native.Mathlib.Omega.{arith}
 use lib.Dec.{eqb}
-use lib.IntN.{pos, negsuc, negℤ, negℤ-negℤ, _-ℤ_, _*ℤ_}
+use lib.IntN.{ℤ, pos, negsuc, negℤ, negℤ-negℤ, _-ℤ_, _*ℤ_}
 use Rattle.number.specs.declared.Number.{Number}
-use Rattle.number.specs.declared.form.Form.the-variants.{Short}
-use Rattle.number.specs.Number.{formOf, sign, low, complementOf, shortMagnitude, halves, shortOf}
-use Rattle.number.specs.NumberLaws.{Bytes, short-magnitude, form-bytes}
+use Rattle.number.specs.declared.form.Form.the-variants.{Short, Odd}
+use Rattle.number.specs.Number.{formOf, b2, b3, b4, sign, low, complementOf, shortMagnitude, halves, shortOf}
+use Rattle.number.specs.NumberLaws.{Bytes, low-halves, magnitude-cases}
+use Rattle.number.specs.FormLaws.{form-bytes}
 use Rattle.number.specs.Value.{signed, shortValue}
 
--- 256 b4 + b3 less 65,536, where m is what is missing
+-- a low half less 65,536, where m is what is missing
 below-zero : (l m : ℕ) → m + l ≡ 65536 → 0 < m → pos l -ℤ pos 65536 ≡ negℤ (pos m)
 below-zero l zero e p = absurd (omega arith)
 below-zero l (suc m) e p = let k : 65536 - suc l ≡ m = omega arith in simp (lt-ltb l 65536 (omega arith)) (ap negsuc k)
 
--- A short number's value by its sign and magnitude.
-pub short-value : (x : Number) → Bytes x → formOf x ≡ Short → shortValue x ≡ signed (sign x) (shortMagnitude x)
+by-sign : (l s : ℕ) → l < 2 ^ 16 → ((s ≡ 0) ⊎ ((s ≡ 1) × (0 < complementOf l))) → pos l -ℤ pos (65536 * s) ≡ signed s (cond (eqb s 0) l (complementOf l))
+by-sign l s h (inl z) =
+    ap (λ (k : ℕ). pos l -ℤ pos (65536 * k)) z ∙ ap pos (add-zero l) ∙ sym (ap (λ (k : ℕ). signed k (cond (eqb k 0) l (complementOf l))) z)
+by-sign l s h (inr (n, p)) =
+    ap (λ (k : ℕ). pos l -ℤ pos (65536 * k)) n
+    ∙ below-zero l (complementOf l) (omega arith) p
+    ∙ sym (ap (λ (k : ℕ). signed k (cond (eqb k 0) l (complementOf l))) n)
+
+-- A short number's value by its sign and magnitude. (Odd has sign 1 and magnitude 0.)
+pub short-value : (x : Number) → Bytes x → (sign x ≡ 0) ⊎ (0 < shortMagnitude x) → shortValue x ≡ signed (sign x) (shortMagnitude x)
 unfolding shortValue
-short-value x b h = go (short-magnitude x b h) (form-bytes x Short h .1)
+short-value x b h = by-sign (low x) (sign x) (omega arith) (cases (magnitude-cases x b) h)
   where
-    go : ((sign x ≡ 0) × (shortMagnitude x ≡ low x)) ⊎ ((sign x ≡ 1) × (shortMagnitude x + low x ≡ 2 ^ 16)) → (x .b2 ≡ 0) ⊎ ((x .b2 ≡ 255) × (0 < low x))
-        → pos (low x) -ℤ pos (cond (eqb (x .b2) 255) 65536 0) ≡ signed (sign x) (shortMagnitude x)
-    go (inl p) (inl z) =
-        ap (λ (k : ℕ). pos (low x) -ℤ pos (cond (eqb k 255) 65536 0)) z ∙ ap pos (add-zero (low x) ∙ sym (p .1)) ∙ ap (λ (k : ℕ). signed k (shortMagnitude x)) (sym (p .0))
-    go (inl p) (inr n) = absurd (omega arith)
-    go (inr p) (inl z) = absurd (omega arith)
-    go (inr p) (inr n) =
-        ap (λ (k : ℕ). pos (low x) -ℤ pos (cond (eqb k 255) 65536 0)) (n .0)
-        ∙ below-zero (low x) (shortMagnitude x) (p .1) (omega arith)
-        ∙ ap (λ (k : ℕ). signed k (shortMagnitude x)) (sym (p .0))
+    cases : ((sign x ≡ 0) × (shortMagnitude x ≡ low x)) ⊎ ((sign x ≡ 1) × (shortMagnitude x ≡ complementOf (low x))) → (sign x ≡ 0) ⊎ (0 < shortMagnitude x)
+        → (sign x ≡ 0) ⊎ ((sign x ≡ 1) × (0 < complementOf (low x)))
+    cases (inl p) g = inl (p .0)
+    cases (inr p) (inl z) = inl z
+    cases (inr p) (inr g) = inr (p .0, omega arith)
 
 -- a product with a sign
 pub signed-times : (s m k : ℕ) → signed s m *ℤ pos k ≡ signed s (m * k)
@@ -52,11 +56,28 @@ signed-other (suc zero) m h = sym (negℤ-negℤ (pos m))
 signed-other (suc (suc s)) m h = absurd (omega arith)
 
 -- The short number written for a sign and a magnitude has that value.
-pub short-of-value : (s w : ℕ) → 0 < w → w < 2 ^ 16 → shortValue (shortOf s w) ≡ signed s w
+pub short-of-value : (s w : ℕ) → s < 2 → 0 < w → w < 2 ^ 16 → shortValue (shortOf s w) ≡ signed s w
 unfolding shortValue
-short-of-value zero w h g = let halved : 256 * (w / 256) + w % 256 + 0 ≡ w = omega arith in ap pos halved
-short-of-value (suc s) w h g =
+short-of-value zero w h g k =
+    let n = halves 0 w in
+    let none : sign n ≡ 0 = omega arith in
+    ap₂ (λ (l s : ℕ). pos l -ℤ pos (65536 * s)) (low-halves 0 w k) none ∙ ap pos (add-zero w)
+short-of-value (suc zero) w h g k =
     let c = complementOf w in
-    let rest : w + (256 * (c / 256) + c % 256) ≡ 65536 = omega arith in
-    let negative : shortOf (suc s) w ≡ halves 255 c = simp (ne-eqb (suc s) 0 (omega arith)) in
-    ap shortValue negative ∙ below-zero (256 * (c / 256) + c % 256) w rest h
+    let n = halves 255 c in
+    let one : sign n ≡ 1 = omega arith in
+    ap₂ (λ (l s : ℕ). pos l -ℤ pos (65536 * s)) (low-halves 255 c (omega arith)) one ∙ below-zero c w (omega arith) g
+short-of-value (suc (suc s)) w h g k = absurd (omega arith)
+
+-- document 01's words: of a short or odd number the sign says whether b2 is FF
+pub sign-byte : (x : Number) → Bytes x → (formOf x ≡ Short) ⊎ (formOf x ≡ Odd) → shortValue x ≡ pos (256 * b4 x + b3 x) -ℤ pos (cond (eqb (b2 x) 255) 65536 0)
+unfolding shortValue
+sign-byte x b f = ap (λ (n : ℕ). pos (256 * b4 x + b3 x) -ℤ pos n) (go (bytes-of f))
+  where
+    bytes-of : (formOf x ≡ Short) ⊎ (formOf x ≡ Odd) → (b2 x ≡ 0) ⊎ (b2 x ≡ 255)
+    bytes-of (inl h) = form-bytes x Short h .1
+    bytes-of (inr h) = inr (form-bytes x Odd h .1)
+
+    go : (b2 x ≡ 0) ⊎ (b2 x ≡ 255) → 65536 * sign x ≡ cond (eqb (b2 x) 255) 65536 0
+    go (inl z) = simp (ne-eqb (b2 x) 255 (omega arith)) (omega arith)
+    go (inr n) = simp (eq-eqb (b2 x) 255 n) (omega arith)

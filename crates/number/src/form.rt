@@ -1,7 +1,7 @@
 // The four forms of a number.
 use super::Number;
 ghost use mathlib.Core.Path.{_≡_};
-ghost use Rattle.number.specs.Number.{formOf};
+ghost use Rattle.number.specs.Number.{formOf, malformed};
 
 pub enum Form {
     Full,
@@ -17,17 +17,26 @@ pub fn form_of(x: Number) -> Form
     if x.b1 != 0 {
         return Form::Full;
     }
-    if x.b2 == 0 {
+    if x.word < 16777216 {
         return Form::Short;
     }
-    if x.b2 != 255 {
+    if x.word < 4278190080 {
         return Form::Malformed;
     }
-    if x.b3 != 0 {
-        return Form::Short;
+    if x.word < 4278190336 {
+        return Form::Odd;
     }
-    if x.b4 != 0 {
-        return Form::Short;
+    Form::Short
+}
+
+pub fn is_malformed(x: Number) -> bool
+    ensures { λ r. ⌜ r ≡ malformed x ⌝ }
+{
+    if x.b1 != 0 {
+        return false;
     }
-    Form::Odd
+    if x.word < 16777216 {
+        return false;
+    }
+    x.word < 4278190080
 }

@@ -1,34 +1,30 @@
-// Five-byte numbers of the Spectrum's calculator: their forms, the zero test, re-stacking, negation, truncation, and the value as a double.
+// Five-byte numbers of the Spectrum's calculator: their forms, re-stacking and negation.
 // Every function takes any five bytes.
 mod form;
 mod negation;
 mod parts;
 mod restacking;
-mod truncation;
 mod unpacking;
-mod value;
-mod zero_test;
 
 pub use form::Form;
 pub use form::form_of;
+pub use form::is_malformed;
 pub use negation::negate;
+pub use parts::complement;
 pub use parts::full;
+pub use parts::joined;
 pub use parts::low_half;
 pub use parts::mantissa;
+pub use parts::short;
 pub use parts::short_halves;
+pub use parts::sign_of;
+pub use parts::zero;
 pub use restacking::re_stack;
-pub use truncation::is_taken_65536;
-pub use truncation::truncate;
 pub use unpacking::Unpacked;
 pub use unpacking::unpack;
-pub use value::double;
-pub use zero_test::test_zero;
 
-// A number is five bytes b1 to b5.
+// A number is five bytes b1 to b5. The word is b2 to b5, high byte first.
 pub struct Number {
     pub b1: u8,
-    pub b2: u8,
-    pub b3: u8,
-    pub b4: u8,
-    pub b5: u8,
+    pub word: u32,
 }

@@ -1,25 +1,22 @@
-// Negation.
+// Negation. Two's complement of odd's low half is 0, so odd becomes zero as the other shorts change sign.
 use super::Number;
-use super::form::Form;
-use super::form::form_of;
-use super::parts::bytes;
 use super::parts::short;
 use super::parts::short_magnitude;
-use super::zero_test::test_zero;
+use super::parts::sign_of;
 ghost use mathlib.Core.Path.{_≡_};
 ghost use Rattle.number.specs.Negate.{negated};
 
 pub fn negate(x: Number) -> Number
     ensures { λ r. ⌜ r ≡ negated x ⌝ }
 {
-    if test_zero(x) {
+    if x.b1 != 0 {
+        return Number {
+            b1: x.b1,
+            word: std::num::wrapping_add_u32(x.word, 2147483648),
+        };
+    }
+    if x.word < 256 {
         return x;
     }
-    let form = form_of(x);
-    match form {
-        Form::Full => bytes(x.b1, std::num::wrapping_add_u8(x.b2, 128), x.b3, x.b4, x.b5),
-        Form::Short => short(1 - x.b2 / 128, short_magnitude(x)),
-        Form::Odd => bytes(0, 0, 0, 0, 0),
-        Form::Malformed => x,
-    }
+    short(1 - sign_of(x), short_magnitude(x))
 }

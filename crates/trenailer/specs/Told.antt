@@ -4,16 +4,12 @@ use mathlib.Core.Path.{_≡_}
 use mathlib.Core.List.{List, [], _∷_}
 use lib.Ieee.{Float}
 use lib.ListN.{length, take, drop}
-use Rattle.calculator.specs.declared.outcome.Outcome.{Outcome}
 use Rattle.calculator.specs.declared.outcome.RunOutcome.{RunOutcome}
-use Rattle.calculator.specs.declared.display.Cell.{Cell}
-use Rattle.calculator.specs.declared.display.Cell.the-variants.{Refused, Blank, Odd, Value}
-use Rattle.calculator.specs.View.{viewOf}
+use Rattle.display.specs.declared.shown.Cell.{Cell}
+use Rattle.display.specs.declared.shown.Cell.the-variants.{Refused, Blank, Odd, Value}
+use Rattle.slots.specs.View.{viewOf}
 
--- the report that is returned, with the depth that is written
-abbrev pub outcome : ℕ → ℕ → Outcome
-outcome r d = record { report = r; depth = d }
-
+-- the report that is returned, with the position and the depth that are written
 abbrev pub runOutcome : ℕ → ℕ → ℕ → RunOutcome
 runOutcome r p d = record { report = r; position = p; depth = d }
 

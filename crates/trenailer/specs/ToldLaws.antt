@@ -7,10 +7,10 @@ use native.Mathlib.Omega.{arith}
 use lib.ListN.{length, take, drop, length-take, length-drop}
 use borrow.Author.Tests.{eqb-true, eqb-false}
 use lib.Dec.{eqb}
-use Rattle.calculator.specs.Reports.{overLimits}
-use Rattle.calculator.specs.ReportLaws.{within-of}
-use Rattle.calculator.specs.View.{viewOf}
-use Rattle.calculator.specs.ViewLaws.{view-over, view-empty, view-top}
+use Rattle.slots.specs.Reports.{overLimits}
+use Rattle.slots.specs.LimitLaws.{within-of}
+use Rattle.slots.specs.View.{viewOf}
+use Rattle.slots.specs.ViewLaws.{view-over, view-empty, view-top}
 use Rattle.trenailer.specs.Told.{startOf, Part}
 
 nothing : (xs : List ℕ) → length xs ≡ 0 → xs ≡ []

@@ -2,18 +2,17 @@
 // length, and what a function answers beside its result goes out through a pointer.
 use calculator::Cell;
 ghost use mathlib.Core.Path.{_≡_};
-ghost use Rattle.calculator.specs.Operate.{operateOf, pushOf};
+ghost use Rattle.slots.specs.Push.{pushOf};
+ghost use Rattle.display.specs.Cell.{cellOf};
+ghost use Rattle.calculator.specs.Operate.{outcome, operateOf};
 ghost use Rattle.calculator.specs.Run.{runOf};
-ghost use Rattle.calculator.specs.Cell.{cellOf};
-ghost use Rattle.trenailer.specs.Told.{outcome, runOutcome, Part, toldOf};
+ghost use Rattle.trenailer.specs.Told.{runOutcome, Part, toldOf};
 
 #[no_mangle]
 pub extern "C" fn trenailer_operate(stack: &mut [u8], depth: &mut usize, literal: u8) -> u8
     ensures { λ r. ⌜ operateOf (now (stack .entry)) (now (depth .entry)) literal ≡ (outcome r (now (depth .exit)), now (stack .exit)) ⌝ }
 {
-    let done = calculator::operate(stack, *depth, literal);
-    *depth = done.depth;
-    done.report
+    calculator::operate_in_place(stack, depth, literal)
 }
 
 #[no_mangle]

@@ -3,7 +3,7 @@ use borrow.Author.Needs.{needs}
 use mathlib.Core.Path.{_≡_, sym, _∙_, ap}
 use native.Mathlib.Omega.{arith}
 use lib.ListN.{length}
-use Rattle.calculator.specs.View.{viewOf}
+use Rattle.slots.specs.View.{viewOf}
 use Rattle.trenailer.specs.ToldLaws.{seen, part-seen, part-empty}
 use Rattle.trenailer.proofs.trenailer_view.Statement.{statement}
 use Rattle.trenailer.proofs.trenailer_view.Tie as tie

@@ -1,5 +1,4 @@
 -- `delete` meets its contract: it moves the depth and no byte.
-use borrow.Author.Needs.{needs}
 use mathlib.Core.Path.{refl}
 use native.Mathlib.Omega.{arith}
 use Rattle.calculator.specs.Reports.{notInTable, noRoomFor, malformedOperand, tooBig}
@@ -10,11 +9,15 @@ use Rattle.calculator.proofs.moving.delete.Tie as tie
 
 returns : tie.Need-returns
 unfolding notInTable
-returns c s w = refused-2 _ _ _ _ w (c .before .before .pre) refl (c .if1 .taken)
+returns c l s h w =
+    let i = c .before .before in
+    refused-2 _ _ l _ w (record { line = h; takes = i .pre .0; leaves = i .pre .1 }) refl (c .if1 .taken)
 
 returns-2 : tie.Need-returns-2
 unfolding notInTable noRoomFor malformedOperand tooBig bytesAfter
-returns-2 c s w = accepted _ _ _ _ w (c .before .before .pre) refl (c .if1 .left) refl refl refl (omega arith) _ refl
+returns-2 c l s h w =
+    let i = c .before .before in
+    accepted _ _ l _ w (record { line = h; takes = i .pre .0; leaves = i .pre .1 }) refl (c .if1 .left) refl refl refl (omega arith) _ refl
 
 pub delete-spec : {M : Type 1} → statement M
-delete-spec = tie.close (tie.spec returns (λ c. search needs) returns-2)
+delete-spec = tie.close (tie.spec returns (λ c. omega arith) returns-2)

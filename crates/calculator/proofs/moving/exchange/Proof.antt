@@ -10,20 +10,22 @@ use Rattle.calculator.proofs.moving.exchange.Tie as tie
 
 returns : tie.Need-returns
 unfolding notInTable
-returns c = let i = c .before .before .before in refused-2 _ _ _ _ (i .pre .0) (i .pre .1) refl (c .if1 .taken)
+returns c l h =
+    let i = c .before .before .before in
+    refused-2 _ _ l _ (i .pre .0) (record { line = h; takes = i .pre .1 .0; leaves = i .pre .1 .1 }) refl (c .if1 .taken)
 
 returns-2 : tie.Need-returns-2
 unfolding notInTable noRoomFor malformedOperand tooBig bytesAfter
-returns-2 c =
+returns-2 c l h =
     let lower = c .before .before .before .before .before .before .before .before .before .before in
     let e = lower .before .before in
     let i = e .before .before .before in
-    accepted _ _ _ _ (i .pre .0) (i .pre .1) refl (e .if1 .left) refl refl refl (omega (arith, i .pre, e .if1)) _
+    accepted _ _ l _ (i .pre .0) (record { line = h; takes = i .pre .1 .0; leaves = i .pre .1 .1 }) refl (e .if1 .left) refl refl refl (omega (arith, i .pre, e .if1)) _
     (sym (simp (
-      c .before .before .put-in2 .ensures,
-      c .before .before .before .before .before .before .put-in .ensures,
-      c .before .before .before .before .before .before .before .before .number-in2 .ensures,
-      lower .number-in .ensures,
+      c .before .before .put-five2 .ensures,
+      c .before .before .before .before .before .before .put-five .ensures,
+      c .before .before .before .before .before .before .before .before .five-in2 .ensures,
+      lower .five-in .ensures,
     )))
 
 pub exchange-spec : {M : Type 1} → statement M

@@ -5,8 +5,8 @@ use mathlib.Core.Path.{_≡_, refl, sym, _∙_}
 use native.Mathlib.Omega.{arith}
 use lib.ListN.{length, drop}
 use mathlib.Core.Bool.{false}
-use Rattle.calculator.specs.Reports.{overLimits}
-use Rattle.calculator.specs.ReportLaws.{Within, within-of}
+use Rattle.slots.specs.Reports.{overLimits}
+use Rattle.slots.specs.LimitLaws.{Within, within-of}
 use Rattle.calculator.specs.Run.{goOn, runOf}
 use Rattle.calculator.specs.RunLaws.{at-end, stops, goes-on, run-over, run-too-long, run-starts}
 use Rattle.calculator.proofs.running.run.Statement.{statement}

@@ -1,7 +1,7 @@
 -- `form_of` meets its contract: the tests that led to each `return` are the premises of a case law of `formOf`.
 use mathlib.Core.Path.{sym}
 use native.Mathlib.Omega.{arith}
-use Rattle.number.specs.FormLaws.{form-full, form-short, form-malformed, form-short-b3, form-short-b4, form-odd}
+use Rattle.number.specs.FormLaws.{form-full, form-short, form-malformed, form-odd, form-negative}
 use Rattle.number.proofs.form.form_of.Statement.{statement}
 use Rattle.number.proofs.form.form_of.Tie as tie
 
@@ -12,6 +12,5 @@ form-of-spec =
     (λ c. sym (form-full _ (omega arith)))
     (λ c. sym (form-short _ (omega arith) (omega arith)))
     (λ c. sym (form-malformed _ (omega arith) (omega arith) (omega arith)))
-    (λ c. sym (form-short-b3 _ (omega arith) (omega arith) (omega arith)))
-    (λ c. sym (form-short-b4 _ (omega arith) (omega arith) (omega arith) (omega arith)))
-    (λ c. sym (form-odd _ (omega arith) (omega arith) (omega arith) (omega arith))))
+    (λ c. sym (form-odd _ (omega arith) (omega arith) (omega arith)))
+    (λ c. sym (form-negative _ (omega arith) (omega arith) (omega arith) (omega arith))))

@@ -1,5 +1,5 @@
--- `full_of_short` meets its contract: at most sixteen places keep the shift within 64 bits, so that it multiplies and loses nothing.
-use Prim.Native.Nat.{_+_, _-_}
+-- `full_of_short` meets its contract: at most 32 places keep the shift within 64 bits, so that it multiplies and loses nothing.
+use Prim.Native.Nat.{_-_}
 use mathlib.Core.Path.{_∙_, ap}
 use borrow.Author.Needs.{needs}
 use native.Mathlib.Omega.{arith}
@@ -14,18 +14,17 @@ returns : tie.Need-returns
 unfolding fullOfShort
 returns c =
     let v = c .before .args .v in
-    let z = leadingZeros 16 v in
+    let z = leadingZeros 32 v in
     c .full .ensures ∙
-    ap (fullOf (c .before .args .sign) (144 - z)) (shl-exact {a = v} 16 (16 + z) 64 (omega arith) (omega (arith, leading-le 16 v)))
+    ap (fullOf (c .before .args .sign) (160 - z)) (shl-exact {a = v} 16 z 64 (omega arith) (omega (arith, leading-le 32 v)))
 
 pub full-of-short-spec : {M : Type 1} → statement M
 full-of-short-spec =
     tie.close
     (tie.spec
-    (λ c. omega (arith, leading-le 16 (c .args .v)))
-    (λ c. omega (arith, leading-le 16 (c .args .v)))
-    (λ c. omega (arith, leading-le 16 (c .args .v)))
-    (λ c. omega (arith, leading-le 16 (c .args .v)))
-    (λ c. omega (arith, leading-le 16 (c .args .v)))
+    (λ c. omega (arith, leading-le 32 (c .args .v)))
+    (λ c. search needs)
+    (λ c. omega (arith, leading-le 32 (c .args .v)))
+    (λ c. omega (arith, leading-le 32 (c .args .v)))
     (λ c κs. search needs)
     returns)

@@ -1,0 +1,179 @@
+-- Addition by sign and magnitude, which is how the code goes: a law for each way through the definitions.
+use Prim.Native.Nat.{ℕ, suc, _+_, _-_, _^_, _/_, _≤_, _<_, max}
+use mathlib.Core.Path.{_≡_, refl, sym, _∙_, ap, ap₂, subst₂}
+use mathlib.Core.Logic.{_⊎_, inl, inr}
+use mathlib.Core.Bool.{Bool, true, false, cond}
+use borrow.Author.Tests.{le-leb, lt-leb, eq-eqb, ne-eqb, eqb-false}
+use native.Mathlib.Nat.{eq-zero-or-pos, max-comm, max-eq-left, two-pow-succ, div-lt-iff-lt-mul}
+use native.Mathlib.Omega.{arith}
+use lib.Dec.{ltb, eqb}
+use lib.IntN.{ℤ, pos, natAbs, _+ℤ_, +ℤ-comm}
+use lib.Pow.{pow-pos, pow-mono}
+use lib.Signed.{shrZ}
+use Rattle.number.specs.declared.Number.{Number}
+use Rattle.number.specs.Number.{sign, mantissa}
+use Rattle.number.specs.Value.{signed}
+use Rattle.number.specs.ValueLaws.{signed-zero}
+use Rattle.number.specs.declared.unpacking.Unpacked.{Unpacked}
+use Rattle.number.specs.NumberLaws.{Bytes}
+use Rattle.number.specs.Restack.{restacked}
+use Rattle.number.specs.Unpack.{magnitudeOf, unpackedOf, unpacked-range}
+use Rattle.addition.specs.declared.sum.Pair.{Pair}
+use Rattle.addition.specs.declared.sum.Whole.{Whole}
+use Rattle.ending.specs.declared.answer.Answer.{Answer}
+use Rattle.ending.specs.declared.answer.Answer.the-variants.{TooBig}
+use Rattle.ending.specs.Ending.{ended}
+use Rattle.ending.specs.EndingLaws.{ended-zero}
+use Rattle.addition.specs.Addition.{signedMantissa, aligned, endedWhole, carried, endedSum, alignedSum, fullRoute}
+use Rattle.addition.specs.SignedLaws.{natAbs-signed, negative-signed, floor-signed}
+
+-- the magnitude of a mantissa moved k places, by its sign
+abbrev pub shiftedBy : ℕ → ℕ → ℕ → ℕ
+shiftedBy s m k = cond (eqb k 0) m (cond (ltb 32 k) 0 ((m + 2 ^ (k - 1) - s) / 2 ^ k))
+
+-- half of a power of two, and how large it is
+pub record Half (k : ℕ) : Type 0 where
+  pub twice : 2 ^ k ≡ 2 ^ (k - 1) + 2 ^ (k - 1)
+  pub least : 1 ≤ 2 ^ (k - 1)
+  pub most : 2 ^ (k - 1) ≤ 2 ^ 31
+
+pub half : (k : ℕ) → 0 < k → k ≤ 32 → Half k
+half k h g =
+    let suc-pred : k ≡ suc (k - 1) = omega arith in
+    record {
+      twice = ap (λ (n : ℕ). 2 ^ n) suc-pred ∙ two-pow-succ (k - 1);
+      least = pow-pos (k - 1);
+      most = pow-mono {i = k - 1} {j = 31} (omega arith);
+    }
+
+pub shifted-lt : (s m k : ℕ) → m < 2 ^ 32 → 0 < k → k ≤ 32 → (m + 2 ^ (k - 1) - s) / 2 ^ k < 2 ^ 32
+shifted-lt s m k h g l = let p = half k g l in div-lt-iff-lt-mul (pow-pos k) .1 (omega (arith, p .twice, p .least))
+
+pub aligned-signed : (s m k : ℕ) → s < 2 → aligned k (signed s m) ≡ signed s (shiftedBy s m k)
+unfolding aligned
+aligned-signed s m k h = go (eqb k 0) (ltb 32 k) refl
+  where
+    go : (a b : Bool) → eqb k 0 ≡ a
+        → cond a (signed s m) (cond b (pos 0) (shrZ (signed s m +ℤ pos (2 ^ (k - 1))) (2 ^ k))) ≡ signed s (cond a m (cond b 0 ((m + 2 ^ (k - 1) - s) / 2 ^ k)))
+    go true b e = refl
+    go false true e = sym (signed-zero s)
+    go false false e = floor-signed s m k h (omega (arith, eqb-false k 0 e))
+
+unmoved : (z : ℤ) → aligned 0 z ≡ z
+unfolding aligned
+unmoved z = refl
+
+mantissa-signed : (y : Number) → signedMantissa y ≡ signed (sign y) (magnitudeOf y)
+mantissa-signed y = go (eqb (y .b1) 0)
+  where
+    go : (a : Bool) → cond a (pos 0) (signed (sign y) (mantissa y)) ≡ signed (sign y) (cond a 0 (mantissa y))
+    go true = sym (signed-zero (sign y))
+    go false = refl
+
+-- ---- the ending of a sum, by sign and magnitude
+
+-- the ending takes a zero with either sign
+ended-signed : (s m e : ℕ) → s < 2 → endedWhole (signed s m) e ≡ ended s m (e + 256) 0
+ended-signed s m e h = go (eq-zero-or-pos m)
+  where
+    go : (m ≡ 0) ⊎ (0 < m) → endedWhole (signed s m) e ≡ ended s m (e + 256) 0
+    go (inl z) = ended-zero _ _ _ _ (natAbs-signed s m ∙ z) ∙ sym (ended-zero s m (e + 256) 0 z)
+    go (inr p) =
+        ap (λ (n : ℕ). ended n (natAbs (signed s m)) (e + 256) 0) (negative-signed s m h p)
+        ∙ ap (λ (n : ℕ). ended s n (e + 256) 0) (natAbs-signed s m)
+
+within : (z : ℤ) (e : ℕ) → natAbs z < 2 ^ 32 → endedSum z e ≡ endedWhole z e
+unfolding endedSum
+within z e h = simp (lt-leb _ _ h)
+
+beyond : (z : ℤ) (e : ℕ) → 2 ^ 32 ≤ natAbs z → endedSum z e ≡ carried z e
+unfolding endedSum
+beyond z e h = simp (le-leb _ _ h)
+
+module _ (s m e : ℕ) (h : s < 2) where
+  pub sum-ended : m < 2 ^ 32 → endedSum (signed s m) e ≡ ended s m (e + 256) 0
+  sum-ended g = within (signed s m) e (rw natAbs-signed g) ∙ ended-signed s m e h
+
+  pub sum-too-big : 2 ^ 32 ≤ m → e ≡ 255 → endedSum (signed s m) e ≡ TooBig
+  sum-too-big g k = beyond (signed s m) e (rw natAbs-signed g) ∙ simp (eq-eqb (e + 1) 256 (omega arith))
+
+  pub sum-carried : 2 ^ 32 ≤ m → (e ≡ 255 → ⊥) → endedSum (signed s m) e ≡ ended s ((m + 1 - s) / 2) (e + 1 + 256) 0
+  sum-carried g k =
+      beyond (signed s m) e (rw natAbs-signed g)
+      ∙ simp (ne-eqb (e + 1) 256 (omega arith)) (ap (λ (z : ℤ). endedWhole z (e + 1)) (floor-signed s m 1 h (omega arith)))
+      ∙ ended-signed s ((m + 1 - s) / 2) (e + 1) h
+
+-- A sum by sign and magnitude.
+pub record Adds (s m o n : ℕ) (w : Whole) : Type 0 where
+  pub sums : signed s m +ℤ signed o n ≡ signed (w .sign) (w .t)
+  pub sign< : w .sign < 2
+  pub t< : w .t + 1 < 2 ^ 33
+
+-- ---- the order of the two does not matter
+
+pub aligned-comm : (x y : Number) → alignedSum x y ≡ alignedSum y x
+unfolding alignedSum
+aligned-comm x y =
+    let at : ℕ → Answer = λ e. endedSum (aligned (e - x .b1) (signedMantissa x) +ℤ aligned (e - y .b1) (signedMantissa y)) e in
+    let e = max (y .b1) (x .b1) in
+    ap at (max-comm (x .b1) (y .b1))
+    ∙ ap (λ (z : ℤ). endedSum z e) (+ℤ-comm (aligned (e - x .b1) (signedMantissa x)) (aligned (e - y .b1) (signedMantissa y)))
+
+-- with the larger exponent byte first
+pub aligned-first : (x y : Number) → y .b1 ≤ x .b1 → sign x < 2 → sign y < 2
+    → alignedSum x y ≡ endedSum (signed (sign x) (magnitudeOf x) +ℤ signed (sign y) (shiftedBy (sign y) (magnitudeOf y) (x .b1 - y .b1))) (x .b1)
+unfolding alignedSum
+aligned-first x y h g k =
+    let at : ℕ → Answer = λ e. endedSum (aligned (e - x .b1) (signedMantissa x) +ℤ aligned (e - y .b1) (signedMantissa y)) e in
+    let same : x .b1 - x .b1 ≡ 0 = omega arith in
+    let first : aligned (x .b1 - x .b1) (signedMantissa x) ≡ signed (sign x) (magnitudeOf x) =
+    ap (λ (n : ℕ). aligned n (signedMantissa x)) same ∙ unmoved (signedMantissa x) ∙ mantissa-signed x in
+    let second : aligned (x .b1 - y .b1) (signedMantissa y) ≡ signed (sign y) (shiftedBy (sign y) (magnitudeOf y) (x .b1 - y .b1)) =
+    ap (aligned (x .b1 - y .b1)) (mantissa-signed y) ∙ aligned-signed (sign y) (magnitudeOf y) (x .b1 - y .b1) k in
+    ap at (max-eq-left h) ∙ ap₂ (λ (a b : ℤ). endedSum (a +ℤ b) (x .b1)) first second
+
+-- The parts of two numbers, the larger exponent byte first: their sum is the full route's, in either order.
+pub record Ordered (x y : Number) (p : Pair) : Type 0 where
+  pub sign< : p .sign < 2
+  pub m< : p .m < 2 ^ 32
+  pub other< : p .other < 2
+  pub n< : p .n < 2 ^ 32
+  pub order : p .f ≤ p .e
+  pub sums : endedSum (signed (p .sign) (p .m) +ℤ signed (p .other) (shiftedBy (p .other) (p .n) (p .e - p .f))) (p .e) ≡ fullRoute x y
+
+abbrev pair : Unpacked → Unpacked → Pair
+pair a b = record { sign = a .sign; m = a .m; e = a .e; other = b .sign; n = b .m; f = b .e }
+
+module _ (x y : Number) (bx : Bytes x) (by : Bytes y) where
+  -- the first's exponent byte is no smaller
+  pub in-order : unpackedOf y .e ≤ unpackedOf x .e → Ordered x y (pair (unpackedOf x) (unpackedOf y))
+  unfolding unpackedOf fullRoute
+  in-order o =
+      let r = unpacked-range x bx in
+      let t = unpacked-range y by in
+      record {
+        sign< = r .0;
+        m< = r .1;
+        other< = t .0;
+        n< = t .1;
+        order = o;
+        sums = sym (aligned-first (restacked x) (restacked y) o (r .0) (t .0));
+      }
+
+-- the order of the two does not matter
+pub other-order : (x y : Number) (p : Pair) → Ordered x y p → Ordered y x p
+unfolding fullRoute
+other-order x y p o =
+    record {
+      sign< = o .sign<;
+      m< = o .m<;
+      other< = o .other<;
+      n< = o .n<;
+      order = o .order;
+      sums = o .sums ∙ aligned-comm (restacked x) (restacked y);
+    }
+
+-- of parts that equal those
+pub of-parts : (x y : Number) (a b : Unpacked) → a ≡ unpackedOf x → b ≡ unpackedOf y → Bytes x → Bytes y → b .e ≤ a .e → Ordered x y (pair a b)
+of-parts x y a b f g bx by o =
+    subst₂ (λ (u v : Unpacked). v .e ≤ u .e → Ordered x y (pair u v)) (sym f) (sym g) (in-order x y bx by) o

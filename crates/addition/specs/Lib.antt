@@ -1,0 +1,5 @@
+pub mod Addition
+pub mod SignedLaws
+pub mod AdditionLaws
+pub mod ShortRouteLaws
+pub mod Sums

@@ -1,0 +1,37 @@
+-- `store` meets its contract: a case an answer.
+use borrow.Author.Needs.{needs}
+use Prim.Native.Nat.{ℕ, _+_, _-_}
+use mathlib.Core.Path.{_≡_, sym, _∙_, ap, ap₂}
+use mathlib.Core.List.{List}
+use native.Mathlib.Omega.{arith}
+use Rattle.calculator.specs.Dispatch.{storedOf}
+use Rattle.calculator.proofs.two.store.Statement.{statement}
+use Rattle.calculator.proofs.two.store.Tie as tie
+
+returns : tie.Need-returns
+unfolding storedOf
+returns c =
+    let p = c .before .before in
+    let m = p .before .before in
+    let i = m .before .before .before .before .before in
+    let after : i .args .depth .now - 2 + 1 ≡ i .args .depth .now - i .args .taken + i .args .left = omega arith in
+    ap (storedOf (i .args .stack .now) (i .args .depth .now)) (m .before .answer .given .1)
+    ∙ ap₂ (λ (d : ℕ) (s : List ℕ). (0, d, s)) after (sym (p .put-in .ensures))
+
+returns-2 : tie.Need-returns-2
+unfolding storedOf
+returns-2 c = ap (storedOf _ _) (c .enum-told .given .1)
+
+pub store-spec : {M : Type 1} → statement M
+store-spec =
+    tie.close
+    (tie.spec
+    (λ c. search needs)
+    (λ c. search needs)
+    (λ c κs. search needs)
+    (λ c. search needs)
+    (λ c. search needs)
+    (λ c. search needs)
+    (λ c. search needs)
+    returns
+    returns-2)

@@ -1,0 +1,56 @@
+-- Demand 3, over the rounds of `Rounds` and in whole numbers. M and N, here m and n, are the mantissas of the re-stacked dividend and divisor, and a
+-- and b their exponent bytes.
+use mathlib.Core.Path.{_≡_}
+use mathlib.Core.Bool.{cond}
+use mathlib.Core.Logic.{_↔_}
+use Prim.Native.Nat.{ℕ, _+_, _*_, _^_, _/_, _≤_, _<_}
+use lib.Dec.{ltb}
+use Rattle.number.specs.declared.Number.{Number}
+use Rattle.number.specs.Number.{mantissa}
+use Rattle.division.specs.Rounds.{rounds33}
+use Rattle.ending.specs.declared.answer.Answer.{Answer}
+use Rattle.ending.specs.declared.answer.Answer.the-variants.{Done, TooBig}
+
+-- Document 01: "Rounded to nearest, halves up, is the floor of the value plus one half." The value is v / n.
+abbrev pub nearest : ℕ → ℕ → ℕ
+nearest v n = (2 * v + n) / (2 * n)
+
+module _ (m n : ℕ) where
+  -- "plus 128 if M is below N, else plus 129"
+  abbrev pub added : ℕ
+  added = cond (ltb m n) 128 129
+
+  -- "the exact one (M times 2^32 over N if M is below N, else M times 2^31 over N)", times N
+  abbrev pub exact : ℕ
+  exact = cond (ltb m n) (m * 2 ^ 32) (m * 2 ^ 31)
+
+  -- "R is what is left after the 33rd round"
+  abbrev pub R : ℕ
+  R = rounds33 m n .left
+
+  -- "M is below N and 2R is at least N"
+  abbrev pub Exception : Type 0
+  Exception = (m < n) × (n ≤ 2 * R)
+
+  -- "the result's exponent byte is E and its mantissa is the exact one rounded to nearest, halves up, except exactly when [..]: there it is one lower"
+  pub record Result (E : ℕ) (answer : Answer) : Type 0 where
+    pub number : Number
+    pub given : answer ≡ Done number
+    pub exponent : number .b1 ≡ E
+    pub rounded : ¬ Exception → mantissa number ≡ nearest exact n
+    pub one-lower : Exception → mantissa number + 1 ≡ nearest exact n
+
+  -- E is any natural number with E + b = a + `added`; below 0 there is none.
+  pub record Demand3 (a b : ℕ) (answer : Answer) : Type 0 where
+    -- "M and N, whole numbers from 2^31 to 2^32 - 1"
+    pub m-low : 2 ^ 31 ≤ m
+    pub m-high : m < 2 ^ 32
+    pub n-low : 2 ^ 31 ≤ n
+    pub n-high : n < 2 ^ 32
+    -- "The digits of the listing's 33 trial subtractions write the whole quotient of M times 2^32 by N, with a remainder R below N."
+    pub quotient : rounds33 m n .digits * n + R ≡ m * 2 ^ 32
+    pub remainder : R < n
+    -- "Division gives report 6 exactly when E is above 255."
+    pub report6 : (answer ≡ TooBig) ↔ (255 + b < a + added)
+    -- "When E is 1 to 255, [the result]"
+    pub result : (E : ℕ) → E + b ≡ a + added → 1 ≤ E → E ≤ 255 → Result E answer

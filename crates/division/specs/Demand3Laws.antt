@@ -1,0 +1,131 @@
+-- Demand 3 holds of every division of two full numbers. M below N takes one doubling, and the mantissa is the whole quotient; else it takes none, and the
+-- mantissa is half the quotient, rounded by digit 33.
+use mathlib.Core.Path.{_≡_, refl, sym, ap, _∙_}
+use mathlib.Core.Bool.{Bool, true, false}
+use Prim.Native.Nat.{ℕ, _+_, _*_, _-_, _^_, _/_, _%_, _≤_, _<_}
+use native.Mathlib.Nat.{mul-comm, add-mul, mul-assoc, div-div-eq-div-mul}
+use native.Mathlib.Omega.{arith}
+use lib.Dec.{ltb}
+use lib.Arith.{digits-div}
+use borrow.Author.Tests.{ltb-true, ltb-false, lt-ltb, le-ltb}
+use Rattle.number.specs.declared.Number.{Number}
+use Rattle.number.specs.Number.{mantissa, fullOf}
+use Rattle.number.specs.NumberLaws.{mantissa-full}
+use Rattle.number.specs.Restack.{restacked}
+use Rattle.ending.specs.declared.answer.Answer.{Answer}
+use Rattle.ending.specs.Ending.{Loose, loose, rounded, closed}
+use Rattle.ending.specs.EndingLaws.{closed-too-big, closed-too-big-only, closed-stored}
+use Rattle.division.specs.Rounds.{rounds33}
+use Rattle.division.specs.RoundsLaws.{Writes, writes-at-least, writes-below}
+use Rattle.division.specs.Division.{endedRounds, fullQuotient, quotientOf}
+use Rattle.division.specs.DivisionLaws.{Mantissas, rounds33-write, rounds33-low, rounds33-below, ended-doubled, ended-whole, quotient-full}
+use Rattle.division.specs.Operand.{Operand, restacked-full}
+use Rattle.division.specs.Demand3.{nearest, added, exact, R, Exception, Demand3}
+
+-- v / n rounded, where twice v and n over are c times n and a rest
+nearest-is : (v n c : ℕ) {d : ℕ} → 2 * v + n ≡ c * n + d → d < n → nearest v n ≡ c / 2
+nearest-is v n c {d} e h =
+    ap (λ (k : ℕ). (2 * v + n) / k) (mul-comm 2 n) ∙ sym (div-div-eq-div-mul (2 * v + n) n 2)
+    ∙ ap (λ (k : ℕ). k / n / 2) e ∙ ap (λ (k : ℕ). k / 2) (digits-div c h)
+
+module _ (s a b m n : ℕ) (are : Mantissas m n) (bh : b < 256) where
+  abbrev Q : ℕ
+  Q = rounds33 m n .digits
+
+  abbrev answer : Answer
+  answer = endedRounds s (a + 129 + 256 - b) n (rounds33 m n)
+
+  writes : Writes n (m * 2 ^ 32) (rounds33 m n)
+  writes = rounds33-write m n are
+
+  -- What the ending comes to: the loose number that is closed, and its mantissa when the next digit is added.
+  record Ends : Type 0 where
+    l : Loose
+    is : answer ≡ closed s l
+    e-is : l .e + b ≡ a + added m n + 256
+    low : 2 ^ 31 ≤ rounded l
+    high : rounded l < 2 ^ 32
+    as-nearest : ¬ Exception m n → rounded l ≡ nearest (exact m n) n
+    below-nearest : Exception m n → rounded l + 1 ≡ nearest (exact m n) n
+
+  below : m < n → Ends
+  below h =
+      let add : added m n ≡ 128 = simp (lt-ltb m n h) in
+      let all : exact m n ≡ m * 2 ^ 32 = simp (lt-ltb m n h) in
+      let ql = rounds33-low m n are in
+      let qh : Q < 2 ^ 32 = writes-below writes (2 ^ 32) (omega arith) in
+      let twice : (2 * Q) * n ≡ 2 * (Q * n) = mul-assoc 2 Q n in
+      record {
+        l = loose Q (a + 129 + 256 - b - 1) 0;
+        is = ended-doubled m n are s (a + 129 + 256 - b) qh;
+        e-is = omega arith;
+        low = omega arith;
+        high = omega arith;
+        as-nearest = λ no-exception.
+            let less : ¬ (n ≤ 2 * R m n) = λ g. no-exception (h, omega arith) in
+            let near = nearest-is (exact m n) n (2 * Q + 1) {d = 2 * R m n} (omega (arith, add-mul (2 * Q) 1 n, writes .whole)) (omega arith) in
+            omega arith;
+        below-nearest = λ exception.
+            let near = nearest-is (exact m n) n (2 * Q + 2) {d = 2 * R m n - n} (omega (arith, add-mul (2 * Q) 2 n, writes .whole)) (omega (arith, writes .less)) in
+            omega arith;
+      }
+
+  not-below : n ≤ m → Ends
+  not-below h =
+      let add : added m n ≡ 129 = simp (le-ltb m n h) in
+      let all : exact m n ≡ m * 2 ^ 31 = simp (le-ltb m n h) in
+      let ql : 2 ^ 32 ≤ Q = writes-at-least writes (2 ^ 32) (omega arith) in
+      let qh = rounds33-below m n are in
+      let near = nearest-is (exact m n) n (Q + 1) {d = R m n} (omega (arith, add-mul Q 1 n, writes .whole)) (writes .less) in
+      record {
+        l = loose (Q / 2) (a + 129 + 256 - b) (Q % 2);
+        is = ended-whole m n are s (a + 129 + 256 - b) ql;
+        e-is = omega arith;
+        low = omega arith;
+        high = omega arith;
+        as-nearest = λ no-exception. omega arith;
+        below-nearest = λ exception. absurd (omega arith);
+      }
+
+  ends : Ends
+  ends = by-test (ltb m n) refl
+    where
+      by-test : (c : Bool) → ltb m n ≡ c → Ends
+      by-test true h = below (ltb-true _ _ h)
+      by-test false h = not-below (ltb-false _ _ h)
+
+  plain-demand3 : Demand3 m n a b answer
+  plain-demand3 =
+      let e = ends in
+      let l = e .l in
+      record {
+        m-low = are .m-low;
+        m-high = are .m-high;
+        n-low = are .n-low;
+        n-high = are .n-high;
+        quotient = writes .whole;
+        remainder = writes .less;
+        report6 = (
+          (λ big. omega (arith, closed-too-big-only s l (sym (e .is) ∙ big))),
+          (λ big. e .is ∙ closed-too-big s l (omega arith)),
+        );
+        result = λ E is one top.
+            let same = mantissa-full s (l .e - 256) (rounded l) (e .low) (e .high) in
+            record {
+              number = fullOf s (l .e - 256) (rounded l);
+              given = e .is ∙ closed-stored s l (omega arith) (omega arith);
+              exponent = omega arith;
+              rounded = λ no-exception. same ∙ e .as-nearest no-exception;
+              one-lower = λ exception. ap (λ (k : ℕ). k + 1) same ∙ e .below-nearest exception;
+            };
+      }
+
+-- Demand 3: of any two well-formed operands, neither counting as zero.
+pub demand3 :
+    (x y : Number) → Operand x → Operand y →
+    Demand3 (mantissa (restacked x)) (mantissa (restacked y)) (restacked x .b1) (restacked y .b1) (quotientOf x y)
+unfolding fullQuotient
+demand3 x y ox oy =
+    let f = restacked-full x ox in
+    let g = restacked-full y oy in
+    rw (quotient-full x y f g) (plain-demand3 _ _ _ _ _ (omega arith) (omega arith))

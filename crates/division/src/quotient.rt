@@ -1,0 +1,37 @@
+// Division. The listing finds 33 digits by trial subtractions; one machine division finds the same digits.
+use ending::Answer;
+use number::Number;
+ghost use mathlib.Core.Path.{_≡_};
+ghost use Prim.Native.Nat.{_^_, _≤_, _<_};
+ghost use Rattle.division.specs.Rounds.{rounds33};
+ghost use Rattle.division.specs.Division.{quotientOf};
+
+// The 33 digits of the mantissas' quotient, read as one binary number.
+fn digits(m: u64, n: u64) -> u64
+    requires { ⌜ (2 ^ 31 ≤ m) × (m < 2 ^ 32) × (2 ^ 31 ≤ n) × (n < 2 ^ 32) ⌝ }
+    ensures { λ r. ⌜ (r ≡ rounds33 m n .digits) × (r < 2 ^ 33) ⌝ }
+{
+    m * 4294967296 / n
+}
+
+pub fn division(x: Number, y: Number) -> Answer
+    ensures { λ r. ⌜ r ≡ quotientOf x y ⌝ }
+{
+    let b = number::unpack(y);
+    if b.e == 0 {
+        return Answer::TooBig;
+    }
+    let a = number::unpack(x);
+    if a.e == 0 {
+        return Answer::Done(number::zero());
+    }
+    let q = digits(a.m, b.m);
+    let sign = (a.sign + b.sign) % 2;
+    // The ending keeps an exponent as e + 256.
+    let e = a.e as u64 + 129 + 256 - b.e as u64;
+    // A quotient below 2^32 needs one doubling, which takes in digit 33.
+    if q < 4294967296 {
+        return ending::close(sign, q as u32, e - 1, 0);
+    }
+    ending::close(sign, (q / 2) as u32, e, q % 2)
+}

@@ -1,0 +1,40 @@
+-- Laws of slots: five stores are a putSlot, and a slot is its five bytes.
+use Prim.Native.Nat.{ℕ, suc, _+_, _*_, _≤_}
+use mathlib.Core.Path.{_≡_, sym, _∙_}
+use mathlib.Core.List.{List, [], _∷_}
+use native.Mathlib.Omega.{arith}
+use native.Mathlib.Numerals.{towards-suc, add-five}
+use lib.ListN.{length, set, getD, length-append, length-take, length-drop}
+use lib.Seq.{sets-eq, drop-cons, take-all}
+use Rattle.slots.specs.Slots.{slot, putSlot}
+
+-- five bytes are read: the slot
+abbrev pub fiveAt : List ℕ → ℕ → List ℕ
+fiveAt s at = getD s at 0 ∷ getD s (at + 1) 0 ∷ getD s (at + 2) 0 ∷ getD s (at + 3) 0 ∷ getD s (at + 4) 0 ∷ []
+
+module _ (s : List ℕ) (i : ℕ) (h : 5 * i + 5 ≤ length s) where
+  pub five-stores : (a b c d e : ℕ)
+      → set (set (set (set (set s (5 * i) a) (5 * i + 1) b) (5 * i + 2) c) (5 * i + 3) d) (5 * i + 4) e ≡ putSlot s i (a ∷ b ∷ c ∷ d ∷ e ∷ [])
+  unfolding putSlot
+  five-stores a b c d e = simp towards-suc (sets-eq (a ∷ b ∷ c ∷ d ∷ e ∷ []) s (5 * i) h ∙ simp add-five)
+
+  pub slot-five : slot s i ≡ fiveAt s (5 * i)
+  unfolding slot
+  slot-five =
+      simp towards-suc
+      (rw (
+        drop-cons s (5 * i) 0 (omega arith),
+        drop-cons s (suc (5 * i)) 0 (omega arith),
+        drop-cons s (suc (suc (5 * i))) 0 (omega arith),
+        drop-cons s (suc (suc (suc (5 * i)))) 0 (omega arith),
+        drop-cons s (suc (suc (suc (suc (5 * i))))) 0 (omega arith),
+      ))
+
+  pub length-putSlot : (five : List ℕ) → length five ≡ 5 → length (putSlot s i five) ≡ length s
+  unfolding putSlot
+  length-putSlot five f = simp (length-append, length-take, length-drop) (omega arith)
+
+-- five bytes are all of a list of five
+pub five-of : (p : List ℕ) → length p ≡ 5 → fiveAt p 0 ≡ p
+unfolding slot
+five-of p h = sym (slot-five p 0 (omega arith)) ∙ take-all 5 p (omega arith)

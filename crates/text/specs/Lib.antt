@@ -1,4 +1,0 @@
-pub mod Put
-pub mod PutLaws
-pub mod Digits
-pub mod DigitLaws

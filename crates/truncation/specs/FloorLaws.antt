@@ -1,0 +1,196 @@
+-- Int of a negative full number: what is left when the whole part is taken away is the difference of the mantissas.
+use Prim.Native.Nat.{ℕ, _+_, _*_, _-_, _^_, _/_, _%_, _≤_, _<_}
+use mathlib.Core.Path.{_≡_, refl, sym, _∙_, ap, ap₂}
+use mathlib.Core.Logic.{_⊎_, inl, inr}
+use mathlib.Core.Bool.{Bool, true, false, cond}
+use borrow.Author.Tests.{ne-eqb, eq-eqb, eqb-false, ltb-false}
+use native.Mathlib.Nat.{div-eq-of-lt, le-trans, le-of-eq}
+use native.Mathlib.Omega.{arith}
+use lib.Count.{leadingZeros}
+use lib.Dec.{ltb, eqb}
+use lib.IntN.{ℤ, _+ℤ_}
+use Rattle.number.specs.declared.Number.{Number}
+use Rattle.number.specs.Number.{formOf, zeros, bytes, sign, mantissa, fullOf, low, complementOf, halves, shortOf, shortMagnitude, passesZeroTest}
+use Rattle.number.specs.NumberLaws.{Bytes, mantissa-full, sign-full, low-halves, zero-passes, full-fails}
+use Rattle.number.specs.Value.{signed, shortValue}
+use Rattle.number.specs.Restack.{fullOfShort, restacked}
+use Rattle.number.specs.RestackLaws.{restack-full, restack-some}
+use Rattle.number.specs.Negate.{negated}
+use Rattle.number.specs.NegateLaws.{negate-full, negate-short}
+use Rattle.number.specs.Unpack.{magnitudeOf}
+use Rattle.ending.specs.declared.answer.Answer.the-variants.{Done}
+use Rattle.ending.specs.Ending.{loose, normal, rounded, closed, ended}
+use Rattle.ending.specs.EndingLaws.{normal-exponent, closed-stored, ended-zero, ended-other, ended-set}
+use Rattle.addition.specs.Addition.{aligned, endedSum, alignedSum, fullRoute, shortRoute, sumOf, differenceOf}
+use Rattle.addition.specs.SignedLaws.{first-larger}
+use Rattle.addition.specs.AdditionLaws.{shiftedBy, half, aligned-first, sum-ended}
+use Rattle.addition.specs.ShortRouteLaws.{first-full}
+use Rattle.truncation.specs.Truncate.{taken65536, cleared, truncated}
+use Rattle.truncation.specs.TruncateLaws.{truncate-full, truncate-below-one, truncate-to-short, truncate-taken, truncate-cleared, truncate-whole, taken-145, taken-not-145}
+use Rattle.truncation.specs.BitLaws.{cleared-le, Cleared, cleared-word, Dropped, dropped, dropped-lt}
+use Rattle.truncation.specs.Int.{shortOne, intOf}
+use Rattle.truncation.specs.IntLaws.{int-whole, int-part, minusOne, less-one, odd-less-one}
+
+-- what is added when t is subtracted on the full route
+abbrev opposite : Number → Number
+opposite t = restacked (negated t)
+
+-- nothing moved is nothing: half of 2^k is less than 2^k
+none-moved : (k : ℕ) → shiftedBy 0 0 k ≡ 0
+none-moved k = go (eqb k 0) (ltb 32 k) refl refl
+  where
+    go : (a b : Bool) → eqb k 0 ≡ a → ltb 32 k ≡ b → cond a 0 (cond b 0 ((0 + 2 ^ (k - 1) - 0) / 2 ^ k)) ≡ 0
+    go true b e f = refl
+    go false true e f = refl
+    go false false e f = let h = half k (omega (arith, eqb-false k 0 e)) (ltb-false _ _ f) in div-eq-of-lt (omega arith)
+
+negative : (c : ℕ) → c < 2 ^ 16 → (sign (halves 255 c) ≡ 1) × (256 ≤ halves 255 c .word)
+negative c p = omega arith
+
+zero-less-one : differenceOf zeros shortOne ≡ Done (halves 255 65535)
+unfolding differenceOf negated formOf passesZeroTest sumOf shortRoute shortValue
+zero-less-one = refl
+
+module _ (x : Number) (b : Bytes x) (s : sign x ≡ 1) (f : 0 < x .b1) where
+  -- x less t, where t's opposite has the sign clear and comes to c at x's exponent
+  left : (t z : Number) (c : ℕ) → opposite t ≡ z → z .b1 ≤ x .b1 → sign z ≡ 0
+      → shiftedBy 0 (magnitudeOf z) (x .b1 - z .b1) ≡ c → c ≤ mantissa x → differenceOf x t ≡ ended 1 (mantissa x - c) (x .b1 + 256) 0
+  unfolding differenceOf fullRoute
+  left t z c o h g k l =
+      let some : x .b1 ≡ 0 → ⊥ = omega arith in
+      let m : magnitudeOf x ≡ mantissa x = simp (ne-eqb (x .b1) 0 some) in
+      let moved : signed (sign z) (shiftedBy (sign z) (magnitudeOf z) (x .b1 - z .b1)) ≡ signed 0 c =
+      ap (λ (i : ℕ). signed i (shiftedBy i (magnitudeOf z) (x .b1 - z .b1))) g ∙ ap (signed 0) k in
+      first-full x (negated t) some
+      ∙ ap₂ alignedSum (restack-full x some) o
+      ∙ aligned-first x z h (omega arith) (omega arith)
+      ∙ ap₂ (λ (v w : ℤ). endedSum (v +ℤ w) (x .b1)) (ap₂ signed s m) moved
+      ∙ ap (λ (v : ℤ). endedSum v (x .b1)) (first-larger 1 0 (mantissa x) c (omega arith) (omega arith) (omega arith) l)
+      ∙ sum-ended 1 (mantissa x - c) (x .b1) (omega arith) (omega arith)
+
+  module _ (t : Number) (d : ℕ) (e : truncated x ≡ t) (h : differenceOf x t ≡ ended 1 d (x .b1 + 256) 0) where
+    left-none : d ≡ 0 → intOf x ≡ Done t
+    left-none z = int-whole x t zeros s e (h ∙ ended-zero 1 d (x .b1 + 256) 0 z) (zero-passes zeros refl (omega arith))
+
+    -- the top bit is set, or 31 doublings leave such an exponent above 0
+    left-some : (d ≡ 0 → ⊥) → (2 ^ 31 ≤ d) ⊎ (31 < x .b1) → intOf x ≡ differenceOf t shortOne
+    left-some n (inl g) =
+        let l = loose d (x .b1 + 256) 0 in
+        int-part x t _ s e (h ∙ ended-set 1 d (x .b1 + 256) 0 g ∙ closed-stored 1 l (omega arith) (omega arith))
+        (full-fails (fullOf 1 (l .e - 256) (rounded l)) (omega arith))
+    left-some n (inr g) =
+        let l = normal 31 (loose d (x .b1 + 256) 0) in
+        let k = normal-exponent 31 (loose d (x .b1 + 256) 0) in
+        int-part x t _ s e (h ∙ ended-other 1 d (x .b1 + 256) 0 n ∙ closed-stored 1 l (omega arith) (omega arith))
+        (full-fails (fullOf 1 (l .e - 256) (rounded l)) (omega arith))
+
+  -- the whole part counts as zero on the full route: x itself is left
+  none-taken : (t : Number) → truncated x ≡ t → opposite t ≡ zeros → intOf x ≡ differenceOf t shortOne
+  none-taken t e o =
+      left-some t (mantissa x - 0) e (left t zeros 0 o (omega arith) refl (none-moved (x .b1 - 0)) (omega arith)) (omega arith) (inl (omega arith))
+
+  pub int-small : x .b1 < 129 → intOf x ≡ Done (halves 255 65535)
+  unfolding negated restacked formOf passesZeroTest
+  int-small h = none-taken zeros (truncate-full x f ∙ truncate-below-one x h) refl ∙ zero-less-one
+
+  pub int-taken : taken65536 x ≡ true → intOf x ≡ Done minusOne
+  unfolding negated restacked formOf passesZeroTest
+  int-taken t =
+      let h = taken-145 x t in
+      none-taken (bytes 0 255 0 0 0) (truncate-full x f ∙ truncate-taken x (omega arith) t) refl ∙ odd-less-one (bytes 0 255 0 0 0) refl refl refl
+
+  -- the whole part has x's exponent
+  left-same : (t z : Number) → opposite t ≡ z → z .b1 ≡ x .b1 → sign z ≡ 0 → mantissa z ≤ mantissa x
+      → differenceOf x t ≡ ended 1 (mantissa x - mantissa z) (x .b1 + 256) 0
+  left-same t z o e g l =
+      left t z (mantissa z) o (omega arith) g (simp (eq-eqb (x .b1 - z .b1) 0 (omega arith), ne-eqb (z .b1) 0 (omega arith))) l
+
+  pub int-large : 160 ≤ x .b1 → intOf x ≡ Done x
+  int-large h =
+      let z : Number = record { b1 = x .b1; word = (x .word + 2 ^ 31) % 2 ^ 32 } in
+      let some : x .b1 ≡ 0 → ⊥ = omega arith in
+      let o : opposite x ≡ z = ap restacked (negate-full x some) ∙ restack-full z some in
+      left-none x (mantissa x - mantissa z) (truncate-full x f ∙ truncate-whole x (omega arith) (taken-not-145 x (omega arith)) h)
+      (left-same x z o refl (omega arith) (omega arith)) (omega arith)
+
+  -- ---- 129 to 159: x is whole exactly when the bits that truncation clears are clear
+
+  abbrev k : ℕ
+  k = 160 - x .b1
+
+  pub record Cut (t : Number) : Type 0 where
+    pub whole : cleared k (mantissa x) ≡ mantissa x → intOf x ≡ Done t
+    pub part : (cleared k (mantissa x) ≡ mantissa x → ⊥) → intOf x ≡ differenceOf t shortOne
+
+  cut : (t z : Number) → truncated x ≡ t → opposite t ≡ z → z .b1 ≡ x .b1 → sign z ≡ 0 → mantissa z ≡ cleared k (mantissa x) → 31 < x .b1 → Cut t
+  cut t z e o i g c h =
+      let no-more = cleared-le (mantissa x) k in
+      let rest = left-same t z o i g (le-trans (le-of-eq c) no-more) in
+      record {
+        whole = λ w. left-none t (mantissa x - mantissa z) e rest (omega arith);
+        part = λ w. left-some t (mantissa x - mantissa z) e rest (omega arith) (inr h);
+      }
+
+  pub cut-short : 129 ≤ x .b1 → x .b1 < 145 → Cut (halves 255 (complementOf (mantissa x / 2 ^ k)))
+  unfolding fullOfShort
+  cut-short h g =
+      let v = mantissa x / 2 ^ k in
+      let d = dropped (mantissa x) k (omega arith) (omega arith) (omega arith) in
+      let t = halves 255 (complementOf v) in
+      let z = fullOf 0 (160 - k) (v * 2 ^ k) in
+      let e : truncated x ≡ t = truncate-full x f ∙ truncate-to-short x h g ∙ ap (λ (i : ℕ). shortOf i v) s in
+      cut t z e (short-opposite v (d .some) (dropped-lt (mantissa x) k (omega arith) (omega arith)) ∙ ap (λ (n : ℕ). fullOf 0 (160 - n) (v * 2 ^ n)) (d .zeros))
+      (omega arith) (sign-full 0 (160 - k) (v * 2 ^ k) (omega arith))
+      (mantissa-full 0 (160 - k) (v * 2 ^ k) (d .top) (omega (arith, cleared-le (mantissa x) k))) (omega arith)
+    where
+      again : (v : ℕ) → 0 < v → v < 2 ^ 16 → complementOf (complementOf v) ≡ v
+      again v p q = omega arith
+
+      positive : (c : ℕ) → c < 2 ^ 16 → sign (halves 0 c) ≡ 0
+      positive c p = omega arith
+
+      short-opposite : (v : ℕ) → 0 < v → v < 2 ^ 16 → opposite (halves 255 (complementOf v)) ≡ fullOfShort 0 v
+      short-opposite v p q =
+          let c = complementOf v in
+          let n = negative c (omega arith) in
+          let y = halves 0 v in
+          let low-t : low (halves 255 c) ≡ c = low-halves 255 c (omega arith) in
+          let far : shortMagnitude (halves 255 c) ≡ v = simp (ne-eqb (sign (halves 255 c)) 0 (omega arith)) (ap complementOf low-t ∙ again v p q) in
+          let none : 1 - sign (halves 255 c) ≡ 0 = omega arith in
+          let sign-y : sign y ≡ 0 = positive v q in
+          let near : shortMagnitude y ≡ v = simp (eq-eqb (sign y) 0 sign-y) (low-halves 0 v q) in
+          ap restacked (negate-short (halves 255 c) refl (n .1) ∙ ap₂ shortOf none far)
+          ∙ restack-some y refl (omega arith)
+          ∙ ap₂ fullOfShort sign-y near
+
+  -- one more where a part was cut off
+  pub short-up : 129 ≤ x .b1 → x .b1 < 145 → (cleared k (mantissa x) ≡ mantissa x → ⊥) → intOf x ≡ Done (halves 255 (65535 - mantissa x / 2 ^ k))
+  short-up h g p =
+      let v = mantissa x / 2 ^ k in
+      cut-short h g .part p
+      ∙ lower v (dropped (mantissa x) k (omega arith) (omega arith) (omega arith) .some) (dropped-lt (mantissa x) k (omega arith) (omega arith))
+    where
+      lower : (v : ℕ) → 0 < v → v < 2 ^ 16 → differenceOf (halves 255 (complementOf v)) shortOne ≡ Done (halves 255 (65535 - v))
+      lower v p q =
+          let c = complementOf v in
+          let l : low (halves 255 c) ≡ c = low-halves 255 c (omega arith) in
+          let one : sign (halves 255 c) ≡ 1 = negative c (omega arith) .0 in
+          less-one (halves 255 c) refl one (le-trans (some v p q) (le-of-eq (sym l)))
+          ∙ ap (λ (n : ℕ). Done (halves 255 n)) (ap (λ (n : ℕ). n - 1) l ∙ less v p q)
+        where
+          some : (v : ℕ) → 0 < v → v < 2 ^ 16 → 0 < complementOf v
+          some v p q = omega arith
+
+          less : (v : ℕ) → 0 < v → v < 2 ^ 16 → complementOf v - 1 ≡ 65535 - v
+          less v p q = omega arith
+
+  pub cut-full : 145 ≤ x .b1 → x .b1 < 160 → taken65536 x ≡ false → Cut (record { b1 = x .b1; word = cleared k (x .word) })
+  cut-full h g t =
+      let w = cleared k (x .word) in
+      let c = cleared-word (x .word) k (omega arith) in
+      let y : Number = record { b1 = x .b1; word = w } in
+      let z : Number = record { b1 = x .b1; word = (w + 2 ^ 31) % 2 ^ 32 } in
+      let some : x .b1 ≡ 0 → ⊥ = omega arith in
+      let fits : w < 2 ^ 32 = omega (arith, cleared-le (x .word) k) in
+      cut y z (truncate-full x f ∙ truncate-cleared x h t g) (ap restacked (negate-full y some) ∙ restack-full z some) refl
+      (omega (arith, c .sign)) (omega (arith, c .sign, c .mantissa)) (omega arith)

@@ -1,0 +1,138 @@
+-- Int by what is left when the whole part is taken away; and of short numbers and odd, by the short route.
+use Prim.Native.Nat.{ℕ, _+_, _-_, _^_, _%_, _≤_, _<_}
+use mathlib.Core.Path.{_≡_, refl, sym, _∙_, ap, ap₂}
+use mathlib.Core.Bool.{true, false}
+use borrow.Author.Tests.{eq-eqb, ne-eqb}
+use native.Mathlib.Omega.{arith}
+use lib.Count.{leadingZeros}
+use Rattle.number.specs.declared.Number.{Number}
+use Rattle.number.specs.Number.{formOf, zeros, sign, low, complementOf, fullOf, halves, shortOf, shortMagnitude, passesZeroTest}
+use Rattle.number.specs.NumberLaws.{Bytes, low-halves, zero-passes, some-fails}
+use Rattle.number.specs.Restack.{fullOfShort, restacked}
+use Rattle.number.specs.RestackLaws.{restack-zero}
+use Rattle.number.specs.Negate.{negated}
+use Rattle.number.specs.NegateLaws.{negate-short}
+use Rattle.ending.specs.Ending.{normal, closed, ended}
+use Rattle.ending.specs.declared.answer.Answer.the-variants.{Done}
+use Rattle.addition.specs.Addition.{aligned, endedSum, alignedSum, fullRoute, sumOf, differenceOf}
+use Rattle.addition.specs.ShortRouteLaws.{carryOf, negatives, wrapped, carries, route-positive, route-negative, route-beyond}
+use Rattle.truncation.specs.Truncate.{truncated}
+use Rattle.truncation.specs.TruncateLaws.{truncate-not-full}
+use Rattle.truncation.specs.Int.{shortOne, stepDown, intOf}
+
+pub int-positive : (x : Number) → sign x ≡ 0 → intOf x ≡ Done (truncated x)
+unfolding intOf
+int-positive x h = simp (eq-eqb (sign x) 0 h)
+
+module _ (x t d : Number) (h : sign x ≡ 1) (e : truncated x ≡ t) (f : differenceOf x t ≡ Done d) where
+  down : intOf x ≡ stepDown t (Done d)
+  unfolding intOf
+  down =
+      simp (ne-eqb (sign x) 0 (omega arith))
+      (ap (λ (n : Number). stepDown n (differenceOf x n)) e ∙ ap (stepDown t) f)
+
+  pub int-whole : passesZeroTest d ≡ true → intOf x ≡ Done t
+  int-whole z = down ∙ simp z
+
+  pub int-part : passesZeroTest d ≡ false → intOf x ≡ differenceOf t shortOne
+  int-part z = down ∙ simp z
+
+-- -1 as a full number, 81 80 00 00 00
+abbrev pub minusOne : Number
+minusOne = fullOf 1 129 (2 ^ 31)
+
+-- ---- t less 1, for a negative t that is short or odd
+
+one-negated : negated shortOne ≡ halves 255 65535
+unfolding negated formOf passesZeroTest
+one-negated = refl
+
+one-lower : (l : ℕ) → 0 < l → l < 2 ^ 16 → (l + 65535) % 2 ^ 16 ≡ l - 1
+one-lower l h g = omega arith
+
+module _ (t : Number) (h : t .b1 ≡ 0) (s : sign t ≡ 1) where
+  abbrev other : Number
+  other = halves 255 65535
+
+  two-negative : negatives t other ≡ 2
+  two-negative = ap (λ (n : ℕ). n + 1) s
+
+  pub less-one : 0 < low t → differenceOf t shortOne ≡ Done (halves 255 (low t - 1))
+  unfolding differenceOf
+  less-one p =
+      let carry : carryOf (wrapped t other) (low t) ≡ 1 = carries (low t) 65535 (omega arith) (omega arith) (omega arith) in
+      ap (sumOf t) one-negated
+      ∙ route-negative t other h refl (ap (λ (n : ℕ). n + 1) carry ∙ sym two-negative) .negative refl
+      ∙ ap (λ (n : ℕ). Done (halves 255 n)) (one-lower (low t) p (omega arith))
+
+  -- the sum would be -65,537, and on the full route odd counts as zero
+  pub odd-less-one : low t ≡ 0 → differenceOf t shortOne ≡ Done minusOne
+  unfolding differenceOf fullRoute alignedSum endedSum aligned ended closed normal restacked fullOfShort formOf leadingZeros
+  odd-less-one z =
+      let none : shortMagnitude t ≡ 0 = simp (ne-eqb (sign t) 0 (omega arith)) (ap complementOf z) in
+      let carry : carryOf (wrapped t other) (low t) ≡ 0 = ap (λ (l : ℕ). carryOf ((l + 65535) % 2 ^ 16) l) z in
+      ap (sumOf t) one-negated
+      ∙ route-beyond t other h refl
+      (λ e. none-two (sym carry ∙ e ∙ two-negative))
+      (λ e. one-two (ap (λ (n : ℕ). n + 1) (sym carry) ∙ e ∙ two-negative)) .full (omega arith) (omega arith)
+      ∙ ap (λ (n : Number). alignedSum n (restacked other)) (restack-zero t h none)
+    where
+      none-two : _≡_ {A = ℕ} 0 2 → ⊥
+      none-two e = omega arith
+
+      one-two : _≡_ {A = ℕ} 1 2 → ⊥
+      one-two e = omega arith
+
+-- ---- short and odd, which truncation leaves as they are
+
+back : (l : ℕ) → 0 < l → l < 2 ^ 16 → (l + complementOf l) % 2 ^ 16 ≡ 0
+back l h g = omega arith
+
+module _ (x : Number) (b : Bytes x) (h : x .b1 ≡ 0) (s : sign x ≡ 1) where
+  abbrev opposite : Number
+  opposite = halves 0 (complementOf (low x))
+
+  minus : negated x ≡ opposite
+  minus =
+      let same : shortMagnitude x ≡ complementOf (low x) = simp (ne-eqb (sign x) 0 (omega arith)) in
+      let none : 1 - sign x ≡ 0 = omega arith in
+      negate-short x h (omega arith) ∙ ap₂ shortOf none same
+
+  low-opposite : low opposite ≡ complementOf (low x)
+  low-opposite = low-halves 0 (complementOf (low x)) (omega arith)
+
+  one-negative : negatives x opposite ≡ 1
+  one-negative = let none : sign opposite ≡ 0 = positive (complementOf (low x)) (omega arith) in ap₂ _+_ s none
+    where
+      positive : (c : ℕ) → c < 2 ^ 16 → sign (halves 0 c) ≡ 0
+      positive c g = omega arith
+
+  -- x less x is zero
+  pub int-short : 0 < low x → intOf x ≡ Done x
+  unfolding differenceOf
+  int-short p =
+      let carry : carryOf (wrapped x opposite) (low x) ≡ 1 =
+      ap (λ (k : ℕ). carryOf ((low x + k) % 2 ^ 16) (low x)) low-opposite ∙ carries (low x) (complementOf (low x)) (omega arith) (omega arith) (past (low x) p) in
+      let none : wrapped x opposite ≡ 0 = ap (λ (k : ℕ). (low x + k) % 2 ^ 16) low-opposite ∙ back (low x) p (omega arith) in
+      int-whole x x zeros s (truncate-not-full x h)
+      (ap (sumOf x) minus
+      ∙ route-positive x opposite h refl (carry ∙ sym one-negative) .positive refl
+      ∙ ap (λ (n : ℕ). Done (halves 0 n)) none)
+      (zero-passes zeros refl (omega arith))
+    where
+      past : (l : ℕ) → 0 < l → 2 ^ 16 ≤ l + complementOf l
+      past l g = omega arith
+
+  -- negation takes odd for zero, addition takes it for -65,536
+  pub int-odd : low x ≡ 0 → intOf x ≡ Done minusOne
+  unfolding differenceOf
+  int-odd z =
+      let o : low opposite ≡ 0 = low-opposite ∙ ap complementOf z in
+      let none : wrapped x opposite ≡ 0 = ap₂ (λ (l k : ℕ). (l + k) % 2 ^ 16) z o in
+      let carry : carryOf (wrapped x opposite) (low x) ≡ 0 = ap₂ carryOf none z in
+      int-part x x (halves 255 0) s (truncate-not-full x h)
+      (ap (sumOf x) minus
+      ∙ route-negative x opposite h refl (ap (λ (n : ℕ). n + 1) carry ∙ sym one-negative) .negative refl
+      ∙ ap (λ (n : ℕ). Done (halves 255 n)) none)
+      (some-fails (halves 255 0) refl (omega arith))
+      ∙ odd-less-one x h s z

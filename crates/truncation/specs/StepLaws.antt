@@ -1,0 +1,115 @@
+-- Int of a negative number with exponent byte 145 to 159: less 1, one is added to its magnitude, at bit 160 - b1.
+use Prim.Native.Nat.{ℕ, suc, _+_, _*_, _-_, _^_, _/_, _≤_, _<_}
+use mathlib.Core.Path.{_≡_, refl, sym, _∙_, ap, ap₂}
+use mathlib.Core.Bool.{false}
+use borrow.Author.Tests.{ne-eqb, le-ltb}
+use native.Mathlib.Nat.{div-eq-of-lt, add-mul-div-right, le-trans, le-of-eq}
+use native.Mathlib.Omega.{arith}
+use lib.Count.{leadingZeros}
+use lib.IntN.{ℤ, _+ℤ_}
+use lib.Pow.{pow-add, pow-pos}
+use Rattle.number.specs.declared.Number.{Number}
+use Rattle.number.specs.Number.{formOf, sign, mantissa, fullOf, halves, passesZeroTest}
+use Rattle.number.specs.NumberLaws.{Bytes}
+use Rattle.number.specs.Value.{signed}
+use Rattle.number.specs.Restack.{fullOfShort, restacked}
+use Rattle.number.specs.RestackLaws.{restack-full}
+use Rattle.number.specs.Negate.{negated}
+use Rattle.number.specs.Unpack.{magnitudeOf}
+use Rattle.ending.specs.declared.answer.Answer.the-variants.{Done}
+use Rattle.ending.specs.Ending.{loose, ended, closed}
+use Rattle.ending.specs.EndingLaws.{closed-stored, ended-set}
+use Rattle.addition.specs.Addition.{endedSum, alignedSum, fullRoute, differenceOf}
+use Rattle.addition.specs.SignedLaws.{same-sign}
+use Rattle.addition.specs.AdditionLaws.{shiftedBy, half, aligned-first, sum-ended, sum-carried}
+use Rattle.addition.specs.ShortRouteLaws.{first-full}
+use Rattle.truncation.specs.Truncate.{taken65536, cleared}
+use Rattle.truncation.specs.BitLaws.{Cleared, cleared-word}
+use Rattle.truncation.specs.Int.{shortOne, intOf}
+use Rattle.truncation.specs.IntLaws.{minusOne}
+use Rattle.truncation.specs.FloorLaws.{Cut, cut-full}
+
+-- 2^31 moved down by j places; the half that is added is lost again
+one-moved : (j : ℕ) → 0 < j → j ≤ 31 → shiftedBy 1 (2 ^ 31) j ≡ 2 ^ (31 - j)
+one-moved j h g =
+    let p = half j h (omega arith) in
+    let places : 31 ≡ 31 - j + j = omega arith in
+    let split : 2 ^ 31 ≡ 2 ^ (31 - j) * 2 ^ j = ap (λ (n : ℕ). 2 ^ n) places ∙ pow-add 2 (31 - j) j in
+    let all : 2 ^ 31 + 2 ^ (j - 1) - 1 ≡ 2 ^ (j - 1) - 1 + 2 ^ (31 - j) * 2 ^ j = omega (arith, p .least) in
+    let none : (2 ^ (j - 1) - 1) / 2 ^ j ≡ 0 = div-eq-of-lt (omega (arith, p .twice, p .least)) in
+    simp (ne-eqb j 0 (omega arith), le-ltb 32 j (omega arith))
+    (ap (λ (n : ℕ). n / 2 ^ j) all ∙ add-mul-div-right (2 ^ (j - 1) - 1) (2 ^ (31 - j)) (pow-pos j) ∙ ap (λ (n : ℕ). n + 2 ^ (31 - j)) none ∙ omega arith)
+
+one-opposite : restacked (negated shortOne) ≡ minusOne
+unfolding negated formOf passesZeroTest restacked fullOfShort leadingZeros
+one-opposite = refl
+
+module _ (t : Number) (s : sign t ≡ 1) (h : 145 ≤ t .b1) (g : t .b1 < 160) where
+  abbrev more : ℕ
+  more = mantissa t + 2 ^ (160 - t .b1)
+
+  sum : differenceOf t shortOne ≡ endedSum (signed 1 more) (t .b1)
+  unfolding differenceOf fullRoute
+  sum =
+      let some : t .b1 ≡ 0 → ⊥ = omega arith in
+      let m : magnitudeOf t ≡ mantissa t = simp (ne-eqb (t .b1) 0 some) in
+      let places : 31 - (t .b1 - 129) ≡ 160 - t .b1 = omega arith in
+      first-full t (negated shortOne) some
+      ∙ ap₂ alignedSum (restack-full t some) one-opposite
+      ∙ aligned-first t minusOne (omega arith) (omega arith) (omega arith)
+      ∙ ap₂ (λ (v w : ℤ). endedSum (v +ℤ w) (t .b1)) (ap₂ signed s m)
+      (ap (signed 1) (one-moved (t .b1 - 129) (omega arith) (omega arith) ∙ ap (λ (n : ℕ). 2 ^ n) places))
+      ∙ ap (λ (z : ℤ). endedSum z (t .b1)) (same-sign 1 (mantissa t) (2 ^ (160 - t .b1)))
+
+  pub full-less-one : more < 2 ^ 32 → differenceOf t shortOne ≡ Done (fullOf 1 (t .b1) more)
+  full-less-one f =
+      let e : t .b1 + 256 - 256 ≡ t .b1 = omega arith in
+      let r : more + 0 ≡ more = omega arith in
+      sum
+      ∙ sum-ended 1 more (t .b1) (omega arith) f
+      ∙ ended-set 1 more (t .b1 + 256) 0 (omega arith)
+      ∙ closed-stored 1 (loose more (t .b1 + 256) 0) (omega arith) (omega arith)
+      ∙ ap₂ (λ (i n : ℕ). Done (fullOf 1 i n)) e r
+
+  pub full-less-one-carried : 2 ^ 32 ≤ more → more < 2 ^ 33 → differenceOf t shortOne ≡ Done (fullOf 1 (t .b1 + 1) (more / 2))
+  full-less-one-carried f l =
+      let e : t .b1 + 1 + 256 - 256 ≡ t .b1 + 1 = omega arith in
+      let r : (more + 1 - 1) / 2 + 0 ≡ more / 2 = omega arith in
+      sum
+      ∙ sum-carried 1 more (t .b1) (omega arith) f (omega arith)
+      ∙ ended-set 1 ((more + 1 - 1) / 2) (t .b1 + 1 + 256) 0 (omega arith)
+      ∙ closed-stored 1 (loose ((more + 1 - 1) / 2) (t .b1 + 1 + 256) 0) (omega arith) (omega arith)
+      ∙ ap₂ (λ (i n : ℕ). Done (fullOf 1 i n)) e r
+
+module _ (x : Number) (b : Bytes x) (s : sign x ≡ 1) (h : 145 ≤ x .b1) (g : x .b1 < 160) (t : taken65536 x ≡ false) where
+  abbrev k : ℕ
+  k = 160 - x .b1
+
+  abbrev whole : Number
+  whole = record { b1 = x .b1; word = cleared k (x .word) }
+
+  cuts : Cut x b s (omega arith) whole
+  cuts = cut-full x b s (omega arith) h g t
+
+  kept : Cleared (x .word) k
+  kept = cleared-word (x .word) k (omega arith)
+
+  pub int-same : cleared k (mantissa x) ≡ mantissa x → intOf x ≡ Done x
+  int-same e = cuts .whole e ∙ ap (λ (w : ℕ). Done (record { b1 = x .b1; word = w })) (kept .same e)
+
+  module _ (p : cleared k (mantissa x) ≡ mantissa x → ⊥) where
+    abbrev raised : ℕ
+    raised = cleared k (mantissa x) + 2 ^ k
+
+    equal : mantissa whole + 2 ^ k ≡ raised
+    equal = ap (λ (m : ℕ). m + 2 ^ k) (kept .mantissa)
+
+    pub int-up : raised < 2 ^ 32 → intOf x ≡ Done (fullOf 1 (x .b1) raised)
+    int-up f =
+        cuts .part p ∙ full-less-one whole (kept .sign ∙ s) h g (le-trans (le-of-eq (ap suc equal)) f) ∙ ap (λ (m : ℕ). Done (fullOf 1 (x .b1) m)) equal
+
+    pub int-up-carried : 2 ^ 32 ≤ raised → raised < 2 ^ 33 → intOf x ≡ Done (fullOf 1 (x .b1 + 1) (raised / 2))
+    int-up-carried f l =
+        cuts .part p
+        ∙ full-less-one-carried whole (kept .sign ∙ s) h g (le-trans f (le-of-eq (sym equal))) (le-trans (le-of-eq (ap suc equal)) l)
+        ∙ ap (λ (m : ℕ). Done (fullOf 1 (x .b1 + 1) (m / 2))) equal

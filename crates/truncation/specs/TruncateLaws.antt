@@ -1,0 +1,91 @@
+-- A law for each case of truncation.
+use Prim.Native.Nat.{ℕ, _+_, _-_, _^_, _/_, _≤_, _<_}
+use mathlib.Core.Path.{_≡_, refl, ap}
+use mathlib.Core.Bool.{Bool, true, false, _&&_}
+use native.Mathlib.Omega.{arith}
+use borrow.Author.Tests.{lt-ltb, le-ltb, eq-eqb, ne-eqb, eqb-true, eqb-false, ltb-true}
+use lib.Dec.{eqb, ltb}
+use Rattle.number.specs.declared.Number.{Number}
+use Rattle.number.specs.declared.form.Form.{Form}
+use Rattle.number.specs.declared.form.Form.the-variants.{Full, Short, Odd, Malformed}
+use Rattle.number.specs.FormLaws.{form-full, form-bytes}
+use Rattle.number.specs.NumberLaws.{places}
+use Rattle.number.specs.Number.{b2, b3, b4, bytes, zeros, sign, mantissa, shortOf, formOf}
+use Rattle.truncation.specs.Truncate.{taken65536, cleared, truncatedFull, truncatedAs, truncated}
+
+-- ---- the test for -65,536, by the word
+
+module _ (x : Number) where
+  pub taken-not-145 : (x .b1 ≡ 145 → ⊥) → taken65536 x ≡ false
+  unfolding taken65536
+  taken-not-145 h = simp (ne-eqb (x .b1) 145 h)
+
+  pub taken : x .b1 ≡ 145 → x .word / 2 ^ 15 ≡ 2 ^ 16 → taken65536 x ≡ true
+  unfolding taken65536
+  taken h g =
+      simp (eq-eqb (x .b1) 145 h, eq-eqb (b2 x) 128 (omega arith), eq-eqb (b3 x) 0 (omega arith), lt-ltb (b4 x) 128 (omega arith))
+
+  pub taken-not : (x .word / 2 ^ 15 ≡ 2 ^ 16 → ⊥) → taken65536 x ≡ false
+  unfolding taken65536
+  taken-not h = go (eqb (x .b1) 145) (eqb (b2 x) 128) (eqb (b3 x) 0) (ltb (b4 x) 128) refl refl refl
+    where
+      go : (o p q r : Bool) → eqb (b2 x) 128 ≡ p → eqb (b3 x) 0 ≡ q → ltb (b4 x) 128 ≡ r → o && (p && (q && r)) ≡ false
+      go true true true true e f g =
+          let p = places (x .word) in
+          let two : x .word / 2 ^ 16 ≡ 32768 = omega (arith, p .1, eqb-true (b2 x) 128 e, eqb-true (b3 x) 0 f) in
+          let one : x .word / 2 ^ 8 < 8388608 + 128 = omega (arith, p .0, ltb-true (b4 x) 128 g) in
+          absurd (h (omega arith))
+      go true true true false e f g = refl
+      go true true false r e f g = refl
+      go true false q r e f g = refl
+      go false p q r e f g = refl
+
+  pub taken-145 : taken65536 x ≡ true → x .b1 ≡ 145
+  taken-145 t = go (eqb (x .b1) 145) refl
+    where
+      go : (p : Bool) → eqb (x .b1) 145 ≡ p → x .b1 ≡ 145
+      go true e = eqb-true _ _ e
+      go false e =
+          let no : taken65536 x ≡ false = taken-not-145 (eqb-false _ _ e) in
+          let z : _≡_ {A = ℕ} 0 1 = cc in
+          absurd (omega arith)
+
+-- ---- truncation
+
+module _ (x : Number) where
+  truncate-as : (f : Form) → formOf x ≡ f → truncated x ≡ truncatedAs f x
+  unfolding truncated
+  truncate-as f h = ap (λ (g : Form). truncatedAs g x) h
+
+  pub truncate-full : 0 < x .b1 → truncated x ≡ truncatedFull x
+  truncate-full h = truncate-as Full (form-full x (omega arith))
+
+  pub truncate-not-full : x .b1 ≡ 0 → truncated x ≡ x
+  truncate-not-full h = go (formOf x) refl
+    where
+      go : (f : Form) → formOf x ≡ f → truncated x ≡ x
+      go Full g = absurd (omega (arith, form-bytes x Full g))
+      go Short g = truncate-as Short g
+      go Odd g = truncate-as Odd g
+      go Malformed g = truncate-as Malformed g
+
+  pub truncate-below-one : x .b1 < 129 → truncatedFull x ≡ zeros
+  unfolding truncatedFull
+  truncate-below-one h = simp (lt-ltb _ _ h)
+
+  pub truncate-to-short : 129 ≤ x .b1 → x .b1 < 145 → truncatedFull x ≡ shortOf (sign x) (mantissa x / 2 ^ (160 - x .b1))
+  unfolding truncatedFull
+  truncate-to-short h g = simp (le-ltb _ _ h, lt-ltb _ _ g)
+
+  module _ (h : 145 ≤ x .b1) where
+    pub truncate-taken : taken65536 x ≡ true → truncatedFull x ≡ bytes 0 255 0 0 0
+    unfolding truncatedFull
+    truncate-taken t = simp (le-ltb (x .b1) 129 (omega arith), le-ltb _ _ h, t)
+
+    pub truncate-cleared : taken65536 x ≡ false → x .b1 < 160 → truncatedFull x ≡ record { b1 = x .b1; word = cleared (160 - x .b1) (x .word) }
+    unfolding truncatedFull
+    truncate-cleared t g = simp (le-ltb (x .b1) 129 (omega arith), le-ltb _ _ h, t, lt-ltb _ _ g)
+
+    pub truncate-whole : taken65536 x ≡ false → 160 ≤ x .b1 → truncatedFull x ≡ x
+    unfolding truncatedFull
+    truncate-whole t g = simp (le-ltb (x .b1) 129 (omega arith), le-ltb _ _ h, t, le-ltb _ _ g)

@@ -1,0 +1,6 @@
+// Truncation towards zero, and int, the whole part towards minus infinity. Both take any five bytes for a number.
+mod cutting;
+mod whole;
+
+pub use cutting::truncate;
+pub use whole::int;

@@ -1,0 +1,62 @@
+// Int: the whole part of a negative number, and one less where a part below one was cut off. The definition subtracts; what it comes to is read off
+// the bits here.
+use crate::cutting::is_taken_65536;
+use crate::cutting::truncate;
+use number::Number;
+ghost use mathlib.Core.Path.{_≡_};
+ghost use Prim.Native.Nat.{_≤_, _<_};
+ghost use Rattle.number.specs.Number.{sign};
+ghost use Rattle.ending.specs.declared.answer.Answer.the-variants.{Done};
+ghost use Rattle.truncation.specs.Int.{intOf};
+
+// Of a negative number from 1 on whose last bit is worth less than 2.
+fn floor_of(x: Number) -> Number
+    requires { ⌜ (sign x ≡ 1) × (129 ≤ x .b1) × (x .b1 < 160) ⌝ }
+    ensures { λ r. ⌜ intOf x ≡ Done r ⌝ }
+{
+    // Odd, less 1, goes the full route, where it counts as zero.
+    if is_taken_65536(x) {
+        return number::full(1, 129, 2147483648);
+    }
+    let e = x.b1;
+    let m = number::mantissa(x);
+    let places = 160 - e;
+    let cut = (m >> places) << places;
+    if e < 145 {
+        let v = (m >> places) as u16;
+        if cut == m {
+            return number::short_halves(255, number::complement(v));
+        }
+        return number::short_halves(255, 65535 - v);
+    }
+    if cut == m {
+        return x;
+    }
+    let more = cut + (1u64 << places);
+    if more < 4294967296 {
+        return number::full(1, e, more);
+    }
+    number::full(1, e + 1, more / 2)
+}
+
+pub fn int(x: Number) -> Number
+    ensures { λ r. ⌜ intOf x ≡ Done r ⌝ }
+{
+    if x.word < 2147483648 {
+        return truncate(x);
+    }
+    let e = x.b1;
+    if e == 0 {
+        if number::low_half(x) == 0 {
+            return number::full(1, 129, 2147483648);
+        }
+        return x;
+    }
+    if e < 129 {
+        return number::short_halves(255, 65535);
+    }
+    if e < 160 {
+        return floor_of(x);
+    }
+    x
+}
