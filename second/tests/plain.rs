@@ -1,9 +1,37 @@
 //! The plain Rust that speed is measured against gives the reference's answers: a quick
 //! wrong program would be no measure.
 
-use second::draw;
+use second::draw::{self, EXPONENTS, WORDS};
 use second::rng::Rng;
-use second::{plain, reference};
+use second::{plain, reference, Outcome, RunOutcome};
+
+/// One literal.
+fn held_to_the_reference(stack: &[u8], depth: usize, literal: u8) {
+    let (mut a, mut b) = (stack.to_vec(), stack.to_vec());
+    let expected = reference::operate(&mut a, depth, literal);
+    let mut after = depth;
+    let report = plain::operate(&mut b, &mut after, literal);
+    let answer = Outcome {
+        report,
+        depth: after,
+    };
+    assert_eq!(answer, expected, "{literal} on {stack:02X?} at {depth}");
+    assert_eq!(b, a, "{literal} on {stack:02X?} at {depth}");
+}
+
+fn run_held_to_the_reference(stack: &[u8], depth: usize, list: &[u8]) {
+    let (mut a, mut b) = (stack.to_vec(), stack.to_vec());
+    let expected = reference::run(&mut a, depth, list);
+    let (mut after, mut position) = (depth, usize::MAX);
+    let report = plain::run(&mut b, &mut after, list, &mut position);
+    let answer = RunOutcome {
+        report,
+        position,
+        depth: after,
+    };
+    assert_eq!(answer, expected, "{list:?} on {stack:02X?} at {depth}");
+    assert_eq!(b, a, "{list:?} on {stack:02X?} at {depth}");
+}
 
 #[test]
 fn plain_answers_as_the_reference() {
@@ -17,23 +45,68 @@ fn plain_answers_as_the_reference() {
         let number = draw::any(&mut rng);
         let report = rng.below(3) as u8;
 
-        let (mut a, mut b) = (stack.clone(), stack.clone());
-        let expected = reference::operate(&mut a, depth, literal);
-        assert_eq!(plain::operate(&mut b, depth, literal), expected);
-        assert_eq!(b, a, "{literal} on {stack:02X?} at {depth}");
+        held_to_the_reference(&stack, depth, literal);
 
-        let (mut a, mut b) = (stack.clone(), stack.clone());
-        let expected = reference::run(&mut a, depth, &list);
-        assert_eq!(plain::run(&mut b, depth, &list), expected);
-        assert_eq!(b, a, "{list:?} on {stack:02X?} at {depth}");
+        run_held_to_the_reference(&stack, depth, &list);
 
         let (mut a, mut b) = (stack.clone(), stack.clone());
         let expected = reference::push(&mut a, depth, &number);
-        assert_eq!(plain::push(&mut b, depth, &number), expected);
+        let mut after = depth;
+        let report_of_push = plain::push(&mut b, &mut after, &number);
+        let answer = Outcome {
+            report: report_of_push,
+            depth: after,
+        };
+        assert_eq!(answer, expected, "{number:02X?} on {stack:02X?} at {depth}");
         assert_eq!(b, a, "{number:02X?} on {stack:02X?} at {depth}");
 
         assert_eq!(plain::view(&stack, depth), reference::view(&stack, depth));
         let expected = reference::cell(report, &stack, depth);
         assert_eq!(plain::cell(report, &stack, depth), expected);
+    }
+}
+
+#[test]
+fn every_exponent_with_the_words_at_the_edges() {
+    for exponent in 0..=255 {
+        for word in WORDS {
+            for off in 0..5 {
+                for sign in [0, 0x8000_0000] {
+                    let word = word.wrapping_add(off).wrapping_sub(2) ^ sign;
+                    let x = draw::number(exponent, word);
+                    for literal in [27, 39, 58, 61] {
+                        held_to_the_reference(&x, 1, literal);
+                    }
+                    for other in EXPONENTS {
+                        let pair = [x, draw::number(other, !word)].concat();
+                        for literal in [3, 5, 15] {
+                            held_to_the_reference(&pair, 2, literal);
+                        }
+                    }
+                }
+            }
+        }
+    }
+}
+
+#[test]
+fn the_longest_stack_and_the_next() {
+    let mut rng = Rng::new(16);
+    for slots in [3_199, 3_200, 3_201] {
+        for _ in 0..50 {
+            let stack = draw::stack(&mut rng, slots);
+            for depth in 3_197..3_203 {
+                held_to_the_reference(&stack, depth, draw::literal(&mut rng));
+                run_held_to_the_reference(&stack, depth, &draw::literals(&mut rng, 8));
+                assert_eq!(plain::view(&stack, depth), reference::view(&stack, depth));
+            }
+        }
+    }
+}
+
+#[test]
+fn the_longest_list_and_the_next() {
+    for length in [59_999, 60_000, 60_001] {
+        run_held_to_the_reference(&[0x81, 0, 0, 0, 0], 1, &vec![27; length]);
     }
 }

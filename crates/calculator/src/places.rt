@@ -16,17 +16,18 @@ pub(crate) fn number_in(stack: &[u8], slot: usize) -> Number
     }
 }
 
+// The first byte comes last, so that the compiler stores the other four at once.
 pub(crate) fn put_in(stack: &mut [u8], slot: usize, n: Number)
     requires { ⌜ 5 * slot + 5 ≤ length (now stack) ⌝ }
     ensures { λ _. ⌜ now (stack .exit) ≡ putIn (now (stack .entry)) slot n ⌝ }
 {
     let at = 5 * slot;
     let word = n.word;
-    stack[at] = n.b1;
     stack[at + 1] = (word / 16777216) as u8;
     stack[at + 2] = (word / 65536 % 256) as u8;
     stack[at + 3] = (word / 256 % 256) as u8;
     stack[at + 4] = (word % 256) as u8;
+    stack[at] = n.b1;
 }
 
 // The bytes of a slot as they are, whatever they mean.

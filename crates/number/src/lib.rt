@@ -23,8 +23,9 @@ pub use restacking::re_stack;
 pub use unpacking::Unpacked;
 pub use unpacking::unpack;
 
-// A number is five bytes b1 to b5. The word is b2 to b5, high byte first.
+// A number is five bytes b1 to b5. The word is b2 to b5, high byte first. It stands before b1 so that the compiler, which moves the struct as one
+// machine word, has it in the low half and stores its bytes at once.
 pub struct Number {
-    pub b1: u8,
     pub word: u32,
+    pub b1: u8,
 }

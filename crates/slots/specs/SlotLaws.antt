@@ -1,11 +1,11 @@
 -- Laws of slots: five stores are a putSlot, and a slot is its five bytes.
 use Prim.Native.Nat.{ℕ, suc, _+_, _*_, _≤_}
-use mathlib.Core.Path.{_≡_, sym, _∙_}
+use mathlib.Core.Path.{_≡_, sym, _∙_, ap}
 use mathlib.Core.List.{List, [], _∷_}
 use native.Mathlib.Omega.{arith}
 use native.Mathlib.Numerals.{towards-suc, add-five}
 use lib.ListN.{length, set, getD, length-append, length-take, length-drop}
-use lib.Seq.{sets-eq, drop-cons, take-all}
+use lib.Seq.{set-comm, sets-eq, drop-cons, take-all}
 use Rattle.slots.specs.Slots.{slot, putSlot}
 
 -- five bytes are read: the slot
@@ -17,6 +17,20 @@ module _ (s : List ℕ) (i : ℕ) (h : 5 * i + 5 ≤ length s) where
       → set (set (set (set (set s (5 * i) a) (5 * i + 1) b) (5 * i + 2) c) (5 * i + 3) d) (5 * i + 4) e ≡ putSlot s i (a ∷ b ∷ c ∷ d ∷ e ∷ [])
   unfolding putSlot
   five-stores a b c d e = simp towards-suc (sets-eq (a ∷ b ∷ c ∷ d ∷ e ∷ []) s (5 * i) h ∙ simp add-five)
+
+  -- with the first byte stored last
+  pub first-last : (a b c d e : ℕ)
+      → set (set (set (set (set s (5 * i + 1) b) (5 * i + 2) c) (5 * i + 3) d) (5 * i + 4) e) (5 * i) a ≡ putSlot s i (a ∷ b ∷ c ∷ d ∷ e ∷ [])
+  first-last a b c d e =
+      let two = set s (5 * i + 1) b in
+      let three = set two (5 * i + 2) c in
+      let four = set three (5 * i + 3) d in
+      set-comm four (5 * i + 4) (5 * i) e a (λ h. omega arith)
+      ∙ ap (λ (t : List ℕ). set t (5 * i + 4) e)
+      (set-comm three (5 * i + 3) (5 * i) d a (λ h. omega arith)
+      ∙ ap (λ (t : List ℕ). set t (5 * i + 3) d)
+      (set-comm two (5 * i + 2) (5 * i) c a (λ h. omega arith) ∙ ap (λ (t : List ℕ). set t (5 * i + 2) c) (set-comm s (5 * i + 1) (5 * i) b a (λ h. omega arith))))
+      ∙ five-stores a b c d e
 
   pub slot-five : slot s i ≡ fiveAt s (5 * i)
   unfolding slot

@@ -1,26 +1,28 @@
 //! `speed count` runs under callgrind; `speed report FOLDER` reads what callgrind wrote
 //! there, measures the time and prints both.
 
-use second::speed::{self, callgrind, work, Cost, SIDES};
+use second::speed::{self, callgrind, report, rows, Cost, SIDES};
 use std::collections::HashMap;
 use std::path::Path;
 use std::process::ExitCode;
-
-/// The most instructions that ours may take for one of plain Rust's.
-const LIMIT: f64 = 1.5;
 
 fn main() -> ExitCode {
     let words: Vec<String> = std::env::args().skip(1).collect();
     match words.iter().map(String::as_str).collect::<Vec<_>>()[..] {
         ["count"] => {
-            speed::count(&work::all());
+            speed::count(&rows::all());
             ExitCode::SUCCESS
         }
-        ["report", folder] => match callgrind::read(Path::new(folder)) {
-            Ok(counts) => report(&counts),
+        ["report", folder] => match callgrind::read(Path::new(folder)).map(measured) {
+            Ok(Ok(rows)) if report::print(&rows) => ExitCode::SUCCESS,
+            Ok(Ok(_)) => ExitCode::FAILURE,
+            Ok(Err(name)) => {
+                eprintln!("callgrind counted nothing for {name}");
+                ExitCode::from(2)
+            }
             Err(error) => {
                 eprintln!("{folder}: {error}");
-                ExitCode::FAILURE
+                ExitCode::from(2)
             }
         },
         _ => {
@@ -30,35 +32,20 @@ fn main() -> ExitCode {
     }
 }
 
-fn report(counts: &HashMap<String, f64>) -> ExitCode {
-    println!("an operation                  instructions            nanoseconds");
-    println!("                             ours  plain  ratio     ours  plain  ratio");
-    let mut within = true;
-    for work in work::all() {
-        let sides = SIDES.map(|(side, _)| counts.get(&format!("{}/{side}", work.name)).copied());
+/// Every row with its instructions and its time, or the name of one that was not counted.
+fn measured(counts: HashMap<String, f64>) -> Result<Vec<report::Row>, String> {
+    let mut rows = Vec::new();
+    for work in rows::all() {
+        let sides = SIDES.map(|(side, _)| counts.get(&speed::dump_name(&work, side)).copied());
         let [Some(ours), Some(plain), Some(empty)] = sides else {
-            eprintln!("callgrind counted nothing for {}", work.name);
-            return ExitCode::FAILURE;
+            return Err(work.name);
         };
-        let count = Cost::net(&work, [ours, plain, empty]);
-        let time = speed::time(&work);
-        println!(
-            "{:<26} {:>6.1} {:>6.1} {:>6.2}   {:>6.2} {:>6.2} {:>6.2}",
-            work.name,
-            count.ours,
-            count.plain,
-            count.ratio(),
-            time.ours,
-            time.plain,
-            time.ratio()
-        );
-        within &= !work.promised || count.ratio() <= LIMIT;
+        rows.push(report::Row {
+            count: Cost::net(&work, [ours, plain, empty]),
+            time: speed::time(&work),
+            promised: work.promised,
+            name: work.name,
+        });
     }
-    if within {
-        println!("in instructions every literal is within {LIMIT} times plain Rust");
-        ExitCode::SUCCESS
-    } else {
-        println!("in instructions some literal is over {LIMIT} times plain Rust");
-        ExitCode::FAILURE
-    }
+    Ok(rows)
 }

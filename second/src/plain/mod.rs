@@ -1,178 +1,112 @@
 //! Plain optimised Rust for the same calls: what the speed of ours is measured against.
-//! Words and machine division, and the same answers (tests/plain.rs).
+//! Safe Rust with words and machine division, shaped for the fewest instructions where that
+//! is also quick, and the same answers (tests/plain.rs).
 
-pub mod arithmetic;
-pub mod number;
+mod division;
+mod number;
+mod operate;
+mod run;
+mod sum;
+mod whole;
 
-use crate::{Cell, Outcome, RunOutcome};
-use arithmetic::{add, divide, int, subtract};
-use number::Number;
+pub use operate::operate;
+pub use run::run;
+
+use crate::reference::{DONE, LIMITS, MALFORMED, NO_ROOM};
+use crate::Cell;
+use number::{word, Short, Slot};
+use std::hint::cold_path;
 
 const LONGEST_STACK: usize = 16_000;
-const LONGEST_RUN: usize = 60_000;
+const DEEPEST: usize = LONGEST_STACK / 5;
 
-/// The slots of a stack that report 1 does not refuse.
+/// Where the taken slots end, if there are at least so many and the stack is within its
+/// limits, with so much room. The depth is looked at first, and then five times it is small:
+/// nothing is divided. Each question has its own branch, since joining them costs more.
 #[inline(always)]
-fn slots(stack: &mut [u8], depth: usize) -> Option<&mut [[u8; 5]]> {
-    let fits = stack.len() <= LONGEST_STACK;
-    let slots = stack.as_chunks_mut::<5>().0;
-    (fits && depth <= slots.len()).then_some(slots)
-}
-
-/// The top number: `None` where report 1 refuses, `Some(None)` at depth 0.
-#[inline(always)]
-fn top(stack: &[u8], depth: usize) -> Option<Option<&[u8; 5]>> {
-    let fits = stack.len() <= LONGEST_STACK;
-    let taken = stack.as_chunks::<5>().0.get(..depth)?;
-    fits.then_some(taken.last())
-}
-
-#[inline(always)]
-fn done(depth: usize) -> Outcome {
-    Outcome { report: 0, depth }
-}
-
-/// One literal, report 1 aside.
-#[inline(always)]
-fn step(slots: &mut [[u8; 5]], depth: usize, literal: u8) -> Outcome {
-    let refusal = |report| Outcome { report, depth };
-    match literal {
-        1 => {
-            let Some([.., first, second]) = slots.get_mut(..depth) else {
-                return refusal(2);
-            };
-            core::mem::swap(first, second);
-            done(depth)
-        }
-        2 => match depth {
-            0 => refusal(2),
-            _ => done(depth - 1),
-        },
-        3 => two(slots, depth, subtract),
-        5 => two(slots, depth, divide),
-        15 => two(slots, depth, add),
-        27 => one(slots, depth, |x| Some(x.negate())),
-        39 => one(slots, depth, int),
-        49 => {
-            if depth == 0 {
-                return refusal(2);
-            }
-            if depth >= slots.len() {
-                return refusal(4);
-            }
-            slots[depth] = slots[depth - 1];
-            done(depth + 1)
-        }
-        58 => one(slots, depth, |x| Some(x.truncate())),
-        61 => one(slots, depth, |x| Some(x.re_stack())),
-        _ => refusal(5),
+fn end(len: usize, depth: usize, least: usize, room: usize) -> Option<usize> {
+    if depth.wrapping_sub(least) > DEEPEST - least {
+        cold_path();
+        return None;
     }
+    if len > LONGEST_STACK {
+        cold_path();
+        return None;
+    }
+    if 5 * depth + room > len {
+        cold_path();
+        return None;
+    }
+    Some(5 * depth)
+}
+
+/// Report 1 of a stack, asked where something is wrong.
+fn beyond_limits(len: usize, depth: usize) -> bool {
+    len > LONGEST_STACK || depth > len / 5
+}
+
+/// The last bytes before `end`.
+#[inline(always)]
+fn before<const N: usize>(stack: &mut [u8], end: usize) -> &mut [u8; N] {
+    (&mut stack[end - N..end]).try_into().unwrap()
 }
 
 #[inline(always)]
-fn one(slots: &mut [[u8; 5]], depth: usize, f: impl Fn(Number) -> Option<Number>) -> Outcome {
-    let refusal = |report| Outcome { report, depth };
-    let Some([.., top]) = slots.get_mut(..depth) else {
-        return refusal(2);
+pub fn push(stack: &mut [u8], depth: &mut usize, number: &[u8]) -> u8 {
+    let len = stack.len();
+    let Some(end) = end(len, *depth, 0, 5) else {
+        cold_path();
+        return if beyond_limits(len, *depth) {
+            LIMITS
+        } else {
+            NO_ROOM
+        };
     };
-    let x = Number::load(top);
-    if x.is_malformed() {
-        return refusal(3);
+    let Ok(number) = <&Slot>::try_from(number) else {
+        cold_path();
+        return MALFORMED;
+    };
+    // b1 is 0 and b2 neither 00 nor FF, asked without a branch for the form.
+    let head = u32::from_be_bytes(*number.first_chunk().unwrap());
+    if (0x0001_0000..0x00FF_0000).contains(&head) {
+        cold_path();
+        return MALFORMED;
     }
-    let Some(result) = f(x) else {
-        return refusal(6);
-    };
-    result.store(top);
-    done(depth)
-}
-
-#[inline(always)]
-fn two(
-    slots: &mut [[u8; 5]],
-    depth: usize,
-    f: impl Fn(Number, Number) -> Option<Number>,
-) -> Outcome {
-    let refusal = |report| Outcome { report, depth };
-    let Some([.., first, second]) = slots.get_mut(..depth) else {
-        return refusal(2);
-    };
-    let (a, b) = (Number::load(first), Number::load(second));
-    if a.is_malformed() || b.is_malformed() {
-        return refusal(3);
-    }
-    let Some(result) = f(a, b) else {
-        return refusal(6);
-    };
-    result.store(first);
-    done(depth - 1)
-}
-
-pub fn operate(stack: &mut [u8], depth: usize, literal: u8) -> Outcome {
-    match slots(stack, depth) {
-        Some(slots) => step(slots, depth, literal),
-        None => Outcome { report: 1, depth },
-    }
-}
-
-pub fn push(stack: &mut [u8], depth: usize, number: &[u8]) -> Outcome {
-    let refusal = |report| Outcome { report, depth };
-    let Some(slots) = slots(stack, depth) else {
-        return refusal(1);
-    };
-    let Some(slot) = slots.get_mut(depth) else {
-        return refusal(4);
-    };
-    match <&[u8; 5]>::try_from(number) {
-        Ok(number) if !Number::load(number).is_malformed() => {
-            *slot = *number;
-            done(depth + 1)
-        }
-        _ => refusal(3),
-    }
-}
-
-pub fn run(stack: &mut [u8], mut depth: usize, literals: &[u8]) -> RunOutcome {
-    let answer = |report, position, depth| RunOutcome {
-        report,
-        position,
-        depth,
-    };
-    if literals.len() > LONGEST_RUN {
-        return answer(1, 0, depth);
-    }
-    let Some(slots) = slots(stack, depth) else {
-        return answer(1, 0, depth);
-    };
-    for (position, &literal) in literals.iter().enumerate() {
-        let outcome = step(slots, depth, literal);
-        if outcome.report != 0 {
-            return answer(outcome.report, position, depth);
-        }
-        depth = outcome.depth;
-    }
-    answer(0, literals.len(), depth)
+    *before(stack, end + 5) = *number;
+    *depth += 1;
+    DONE
 }
 
 /// Where the top number starts; `None` for the empty part.
+#[inline(always)]
 pub fn view(stack: &[u8], depth: usize) -> Option<usize> {
-    top(stack, depth)??;
-    Some(5 * depth - 5)
+    Some(end(stack.len(), depth, 1, 0)? - 5)
 }
 
+#[inline(always)]
 pub fn cell(report: u8, stack: &[u8], depth: usize) -> Cell {
-    if report != 0 {
+    if report != DONE {
+        cold_path();
         return Cell::Refused(report);
     }
-    let top = match top(stack, depth) {
-        None => return Cell::Refused(1),
-        Some(None) => return Cell::Blank,
-        Some(Some(top)) => Number::load(top),
+    let Some(end) = end(stack.len(), depth, 1, 0) else {
+        cold_path();
+        return if beyond_limits(stack.len(), depth) {
+            Cell::Refused(LIMITS)
+        } else {
+            Cell::Blank
+        };
     };
-    if top.is_malformed() {
-        Cell::Refused(3)
-    } else if top.is_odd() {
-        Cell::Odd
-    } else {
-        Cell::Value(top.value().to_bits())
+    let top: &Slot = stack[end - 5..end].try_into().unwrap();
+    if top[0] == 0 {
+        return match Short::load(top) {
+            None => Cell::Refused(MALFORMED),
+            Some(short) if short.is_odd() => Cell::Odd,
+            Some(short) => Cell::Value(f64::from(short.value()).to_bits()),
+        };
     }
+    // The mantissa's top bit goes without saying in a double too.
+    let word = u64::from(word(top));
+    let exponent = u64::from(top[0]) + 1023 - 129;
+    Cell::Value((word >> 31) << 63 | exponent << 52 | (word & 0x7FFF_FFFF) << 21)
 }

@@ -1,139 +1,136 @@
-//! A number in two registers, and what needs no arithmetic.
+//! A number's forms, read from its slot and written to it, and the literals that change no
+//! more than the form or the sign. A literal works in place and answers the report.
 
-/// b1 above b2 to b5 as one word with b2 highest: it travels in one register.
-#[derive(Clone, Copy, PartialEq, Eq)]
-pub struct Number(u64);
+use crate::reference::{DONE, MALFORMED};
+use std::hint::cold_path;
+
+pub type Slot = [u8; 5];
 
 pub const SIGN: u32 = 0x8000_0000;
-pub const ZERO: Number = Number(0);
-pub const ODD: Number = Number(0xFF00_0000);
-pub const SHORT_ONE: Number = Number(0x0001_0000);
+pub const ZERO: Slot = [0; 5];
+pub const ODD: Slot = [0, 0xFF, 0, 0, 0];
 
-impl Number {
+/// b2 to b5 as they lie in memory, b2 lowest.
+#[inline(always)]
+pub fn bits(x: &Slot) -> u32 {
+    u32::from_le_bytes(*x.last_chunk().unwrap())
+}
+
+#[inline(always)]
+fn store_bits(x: &mut Slot, bits: u32) {
+    *x.last_chunk_mut().unwrap() = bits.to_le_bytes();
+}
+
+/// b2 to b5 with b2 highest, so that the sign of a full number is on top.
+#[inline(always)]
+pub fn word(x: &Slot) -> u32 {
+    bits(x).swap_bytes()
+}
+
+#[inline(always)]
+pub fn store_word(x: &mut Slot, word: u32) {
+    store_bits(x, word.swap_bytes());
+}
+
+/// A mantissa with its top bit, in place of which comes the sign of `number`.
+#[inline(always)]
+pub fn signed(mantissa: u32, number: i32) -> u32 {
+    mantissa & ((number >> 31) as u32 | !SIGN)
+}
+
+/// b2 to b5 of a value from -65,536, which is odd, to 65,535; 65,536 comes out as zero.
+#[inline(always)]
+pub fn store_value(x: &mut Slot, value: i32) {
+    store_bits(x, (value as u32).rotate_left(8) & 0x00FF_FFFF);
+}
+
+/// What a number is whose b1 is 0: its sign, 0 or -1, and its low half.
+#[derive(Clone, Copy)]
+pub struct Short {
+    pub sign: i64,
+    low: u16,
+}
+
+impl Short {
+    /// `None` where it is malformed.
     #[inline(always)]
-    pub fn new(exponent: u8, rest: u32) -> Number {
-        Number(u64::from(exponent) << 32 | u64::from(rest))
+    pub fn load(x: &Slot) -> Option<Short> {
+        let sign = x[1] as i8;
+        if sign != 0 && sign != -1 {
+            cold_path();
+            return None;
+        }
+        Some(Short {
+            sign: sign.into(),
+            low: u16::from_le_bytes([x[2], x[3]]),
+        })
     }
 
+    /// Odd is -65,536.
     #[inline(always)]
-    pub fn exponent(self) -> u8 {
-        (self.0 >> 32) as u8
-    }
-
-    #[inline(always)]
-    pub fn rest(self) -> u32 {
-        self.0 as u32
-    }
-
-    #[inline(always)]
-    pub fn sign(self) -> u32 {
-        self.rest() & SIGN
-    }
-
-    /// The mantissa of a full number.
-    #[inline(always)]
-    pub fn mantissa(self) -> u32 {
-        self.rest() | SIGN
-    }
-
-    #[inline(always)]
-    pub fn load(b: &[u8; 5]) -> Number {
-        Number::new(b[0], u32::from_be_bytes([b[1], b[2], b[3], b[4]]))
-    }
-
-    #[inline(always)]
-    pub fn store(self, b: &mut [u8; 5]) {
-        b[0] = self.exponent();
-        b[1..].copy_from_slice(&self.rest().to_be_bytes());
-    }
-
-    #[inline(always)]
-    pub fn short(value: i32) -> Number {
-        let sign = value as u32 & 0xFF00_0000;
-        Number::new(0, sign | u32::from((value as u16).swap_bytes()) << 8)
-    }
-
-    #[inline(always)]
-    pub fn full(exponent: u8, mantissa: u32, sign: u32) -> Number {
-        Number::new(exponent, mantissa & !SIGN | sign)
-    }
-
-    #[inline(always)]
-    pub fn is_malformed(self) -> bool {
-        // From b1 = 0 and b2 = 01 to b1 = 0 and b2 = FE.
-        (0x0100_0000..0xFF00_0000).contains(&self.0)
-    }
-
-    #[inline(always)]
-    pub fn is_zero(self) -> bool {
-        self.0 >> 8 == 0
+    pub fn value(self) -> i32 {
+        (self.sign as i32) << 16 | i32::from(self.low)
     }
 
     #[inline(always)]
     pub fn is_odd(self) -> bool {
-        self.0 >> 8 == ODD.0 >> 8
+        self.value() == -65_536
     }
 
-    /// The value of a short number; odd gives -65,536.
+    /// The exponent and the mantissa; `None` for zero and odd, which count as zero.
     #[inline(always)]
-    pub fn short_value(self) -> i32 {
-        let low_half = ((self.rest() >> 8) as u16).swap_bytes();
-        i32::from(low_half) - ((self.rest() >> 31) << 16) as i32
-    }
-
-    #[inline(always)]
-    pub fn re_stack(self) -> Number {
-        if self.exponent() != 0 {
-            return self;
-        }
-        let magnitude = self.short_value().unsigned_abs();
-        // Zero, and odd with its magnitude of 65,536.
-        if magnitude as u16 == 0 {
-            return ZERO;
+    pub fn normal(self) -> Option<(i32, u32)> {
+        let flip = self.sign as i32;
+        let magnitude = ((i32::from(self.low) ^ flip) - flip) as u32 & 0xFFFF;
+        if magnitude == 0 {
+            cold_path();
+            return None;
         }
         let zeros = magnitude.leading_zeros();
-        Number::full(160 - zeros as u8, magnitude << zeros, self.sign())
+        Some((160 - zeros as i32, magnitude << zeros))
     }
+}
 
-    #[inline(always)]
-    pub fn negate(self) -> Number {
-        if self.exponent() != 0 {
-            return Number(self.0 ^ u64::from(SIGN));
-        }
-        if self.is_zero() {
-            return self;
-        }
-        // 65,536, from odd, has no short form and comes out as zero.
-        Number::short(-self.short_value())
+/// The ending of a number too small for its exponent byte.
+#[inline(always)]
+pub fn least(x: &mut Slot, exponent: i32, sign: i32) -> u8 {
+    *x = ZERO;
+    if exponent == 0 {
+        x[0] = 1;
+        store_word(x, sign as u32 & SIGN);
     }
+    DONE
+}
 
-    #[inline(always)]
-    pub fn truncate(self) -> Number {
-        match self.exponent() {
-            0 | 160.. => self,
-            1..=128 => ZERO,
-            e @ 129..=144 => {
-                let whole = (self.mantissa() >> (160 - u32::from(e))) as i32;
-                Number::short(if self.sign() != 0 { -whole } else { whole })
-            }
-            145 if self.rest() >> 15 == SIGN >> 15 => ODD,
-            e @ 145..=159 => Number(self.0 & u64::MAX << (160 - u32::from(e))),
-        }
+#[inline(always)]
+pub fn re_stack(x: &mut Slot) -> u8 {
+    if x[0] != 0 {
+        return DONE;
     }
+    let Some(short) = Short::load(x) else {
+        return MALFORMED;
+    };
+    let Some((exponent, mantissa)) = short.normal() else {
+        *x = ZERO;
+        return DONE;
+    };
+    x[0] = exponent as u8;
+    store_word(x, signed(mantissa, short.sign as i32));
+    DONE
+}
 
-    /// The double of a number that is well formed and not odd.
-    #[inline(always)]
-    pub fn value(self) -> f64 {
-        if self.exponent() == 0 {
-            return f64::from(self.short_value());
-        }
-        let magnitude = f64::from(self.mantissa());
-        let scale = f64::from_bits((u64::from(self.exponent()) + 1023 - 160) << 52);
-        let value = magnitude * scale;
-        if self.sign() != 0 {
-            -value
-        } else {
-            value
-        }
+#[inline(always)]
+pub fn negate(x: &mut Slot) -> u8 {
+    if x[0] != 0 {
+        store_bits(x, bits(x) ^ 0x80);
+        return DONE;
     }
+    let Some(short) = Short::load(x) else {
+        return MALFORMED;
+    };
+    // Zero keeps its fifth byte.
+    if short.value() != 0 {
+        store_value(x, -short.value());
+    }
+    DONE
 }

@@ -3,7 +3,7 @@
 
 use std::arch::asm;
 use std::collections::HashMap;
-use std::ffi::CString;
+use std::ffi::CStr;
 use std::path::Path;
 
 /// Callgrind's requests are numbered from its letters, 'C' and 'T'.
@@ -35,10 +35,9 @@ pub fn zero() {
     request(ZERO_STATS, 0);
 }
 
-/// Up to here, under this name.
+/// Up to here, under this name, which is made before: making it would be counted too.
 #[inline(never)]
-pub fn dump(name: &str) {
-    let name = CString::new(name).expect("a name has no zero byte");
+pub fn dump(name: &CStr) {
     request(DUMP_STATS_AT, name.as_ptr() as u64);
 }
 

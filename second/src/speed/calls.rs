@@ -40,9 +40,7 @@ pub static EMPTY: Calls = Calls {
 // its length, and buffers do not overlap.
 
 unsafe extern "C" fn plain_operate(s: *mut u8, len: usize, depth: *mut usize, literal: u8) -> u8 {
-    let outcome = plain::operate(from_raw_parts_mut(s, len), *depth, literal);
-    *depth = outcome.depth;
-    outcome.report
+    plain::operate(from_raw_parts_mut(s, len), &mut *depth, literal)
 }
 
 unsafe extern "C" fn plain_push(
@@ -53,9 +51,7 @@ unsafe extern "C" fn plain_push(
     number_len: usize,
 ) -> u8 {
     let number = from_raw_parts(number, number_len);
-    let outcome = plain::push(from_raw_parts_mut(s, len), *depth, number);
-    *depth = outcome.depth;
-    outcome.report
+    plain::push(from_raw_parts_mut(s, len), &mut *depth, number)
 }
 
 unsafe extern "C" fn plain_run(
@@ -67,10 +63,8 @@ unsafe extern "C" fn plain_run(
     position: *mut usize,
 ) -> u8 {
     let literals = from_raw_parts(literals, literals_len);
-    let outcome = plain::run(from_raw_parts_mut(s, len), *depth, literals);
-    *depth = outcome.depth;
-    *position = outcome.position;
-    outcome.report
+    let stack = from_raw_parts_mut(s, len);
+    plain::run(stack, &mut *depth, literals, &mut *position)
 }
 
 unsafe extern "C" fn plain_view(

@@ -3,15 +3,22 @@
 
 pub mod callgrind;
 pub mod calls;
+pub mod operands;
+pub mod report;
+pub mod rows;
 pub mod work;
 
 use calls::{Calls, EMPTY, OURS, PLAIN};
+use std::ffi::CString;
 use std::time::Instant;
-use work::Work;
+use work::{Area, Work};
 
 pub const SIDES: [(&str, &Calls); 3] = [("ours", &OURS), ("plain", &PLAIN), ("empty", &EMPTY)];
 
-/// What was measured of a piece of work: instructions and nanoseconds an operation.
+/// How often each side's pass is timed.
+const TIMES: usize = 1_000;
+
+/// What was measured of a piece of work: instructions or nanoseconds an operation.
 #[derive(Clone, Copy)]
 pub struct Cost {
     pub ours: f64,
@@ -33,27 +40,40 @@ impl Cost {
     }
 }
 
+/// Under which callgrind's count of a side is kept.
+pub fn dump_name(work: &Work, side: &str) -> String {
+    format!("{}/{side}", work.name)
+}
+
 /// Under callgrind: counts one pass a side, after one that is not counted.
 pub fn count(all: &[Work]) {
     for work in all {
-        for (side, calls) in SIDES {
-            work.pass(calls);
+        let mut areas = [Area::default(), Area::default(), Area::default()];
+        for (area, (side, calls)) in areas.iter_mut().zip(SIDES) {
+            let name = CString::new(dump_name(work, side)).expect("a name has no zero byte");
+            work.lay(area);
+            work.pass(area, calls);
+            work.lay(area);
             callgrind::zero();
-            work.pass(calls);
-            callgrind::dump(&format!("{}/{side}", work.name));
+            work.pass(area, calls);
+            callgrind::dump(&name);
         }
+        // Two that do not do the same are not to be compared.
+        assert!(areas[0] == areas[1], "{}: the sides differ", work.name);
     }
 }
 
 /// Nanoseconds: the sides in turn, many times over, and of each side its quickest pass.
 pub fn time(work: &Work) -> Cost {
     let mut quickest = [f64::MAX; 3];
-    for _ in 0..200 {
-        for (i, (_, calls)) in SIDES.iter().enumerate() {
+    let mut area = Area::default();
+    for _ in 0..TIMES {
+        for (quickest, (_, calls)) in quickest.iter_mut().zip(SIDES) {
+            work.lay(&mut area);
             let start = Instant::now();
-            work.pass(calls);
+            work.pass(&mut area, calls);
             let passed = start.elapsed().as_nanos() as f64;
-            quickest[i] = quickest[i].min(passed);
+            *quickest = quickest.min(passed);
         }
     }
     Cost::net(work, quickest)

@@ -3,13 +3,13 @@ use native.Mathlib.Omega.{arith}
 use borrow.Author.Needs.{needs}
 use lib.ListN.{length-set}
 use Rattle.slots.specs.Slots.{bytesOf}
-use Rattle.slots.specs.SlotLaws.{five-stores}
+use Rattle.slots.specs.SlotLaws.{first-last}
 use Rattle.calculator.proofs.places.put_in.Statement.{statement}
 use Rattle.calculator.proofs.places.put_in.Tie as tie
 
 returns : tie.Need-returns
 unfolding bytesOf
-returns c = five-stores (c .args .stack .now) (c .args .slot) (c .pre) _ _ _ _ _
+returns c = first-last (c .args .stack .now) (c .args .slot) (c .pre) _ _ _ _ _
 
 pub put-in-spec : {M : Type 1} → statement M
 put-in-spec =
@@ -19,7 +19,6 @@ put-in-spec =
     (λ c. search needs)
     (λ c. search needs)
     (λ c. search needs)
-    (λ c. simp length-set (omega arith))
     (λ c. search needs)
     (λ c. search needs)
     (λ c. simp length-set (omega arith))
@@ -28,6 +27,7 @@ put-in-spec =
     (λ c. simp length-set (omega arith))
     (λ c. search needs)
     (λ c. search needs)
+    (λ c. simp length-set (omega arith))
     (λ c. simp length-set (omega arith))
     (λ c. simp length-set)
     returns)

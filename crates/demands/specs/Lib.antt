@@ -1,0 +1,12 @@
+pub mod SlotFacts
+pub mod Accepted
+pub mod Counts
+pub mod Bytes
+pub mod Agreement
+pub mod Independence
+pub mod Demand1
+pub mod Demand2
+pub mod Demand2Reads
+pub mod Demand2Run
+pub mod Demand3
+pub mod Sums

@@ -1,0 +1,79 @@
+-- The starred rows of document 01's sums, together, and its worked run: each is an operation on a stack of its own.
+use Prim.Native.Nat.{ℕ}
+use mathlib.Core.Path.{_≡_, refl}
+use mathlib.Core.List.{List, [], _∷_, _++_, map}
+use lib.Count.{leadingZeros}
+use Rattle.number.specs.declared.Number.{Number}
+use Rattle.number.specs.Number.{bytes, zeros, formOf, passesZeroTest}
+use Rattle.number.specs.Value.{shortValue}
+use Rattle.number.specs.Restack.{restacked, fullOfShort}
+use Rattle.number.specs.Negate.{negated}
+use Rattle.truncation.specs.Truncate.{truncated, truncatedFull, taken65536}
+use Rattle.ending.specs.Ending.{normal, closed, ended}
+use Rattle.division.specs.Rounds.{tried, rounds}
+use Rattle.division.specs.Division.{fullQuotient, restackedQuotient, quotientOf}
+use Rattle.addition.specs.Addition.{aligned, endedSum, alignedSum, fullRoute, shortRoute, sumOf, differenceOf}
+use Rattle.truncation.specs.Int.{intOf}
+use Rattle.slots.specs.declared.outcome.Outcome.{Outcome}
+use Rattle.slots.specs.Slots.{numberIn, bytesOf, putIn}
+use Rattle.calculator.specs.Literals.{rowOf, operationOf, takes, leaves}
+use Rattle.calculator.specs.Reports.{overLimits, tooManyLiterals, notInTable, noRoom, noRoomFor, isMalformed, malformed, malformedOperand, isTooBig, tooBig, reportOf}
+use Rattle.calculator.specs.Operate.{stored, bytesAfter, settled, operateOf}
+use Rattle.calculator.specs.Run.{goOn, runOf}
+
+-- a stack, its depth and a literal, with what the literal leaves
+pub record Case : Type 0 where
+  pub stack : List ℕ
+  pub depth : ℕ
+  pub literal : ℕ
+  pub leaves : Outcome × List ℕ
+
+-- of two numbers: the result stands in the first's slot, and the second's bytes stay above the top
+abbrev gives : ℕ → Number → Number → Number → Case
+gives l x y z =
+    record { stack = bytesOf x ++ bytesOf y; depth = 2; literal = l; leaves = (record { report = 0; depth = 1 }, bytesOf z ++ bytesOf y) }
+
+-- of two numbers, refused: nothing changes
+abbrev refuses : ℕ → Number → Number → ℕ → Case
+refuses l x y r =
+    record { stack = bytesOf x ++ bytesOf y; depth = 2; literal = l; leaves = (record { report = r; depth = 2 }, bytesOf x ++ bytesOf y) }
+
+-- of one number
+abbrev turns : ℕ → Number → Number → Case
+turns l x z = record { stack = bytesOf x; depth = 1; literal = l; leaves = (record { report = 0; depth = 1 }, bytesOf z) }
+
+-- 5 divides, 15 adds, 39 is int, 58 truncates.
+abbrev pub starred : List Case
+starred =
+    gives 5 (bytes 0x81 0 0 0 0) (bytes 0x84 0x20 0 0 0) (bytes 0x7D 0x4C 0xCC 0xCC 0xCC)
+    ∷ gives 5 (bytes 0x84 0x70 0 0 0) (bytes 0x84 0x50 0 0 0) (bytes 0x81 0x13 0xB1 0x3B 0x14)
+    ∷ gives 5 (bytes 0x83 0x20 0 0 0) (bytes 0x82 0x40 0 0 0) (bytes 0x81 0x55 0x55 0x55 0x55)
+    ∷ gives 5 (bytes 0xFF 0 0 0 0) (bytes 0x80 0x40 0 0 0) (bytes 0xFF 0x2A 0xAA 0xAA 0xAA)
+    ∷ refuses 5 (bytes 0xFF 0x7F 0xFF 0xFF 0xFF) (bytes 0x80 0 0 0 0) 6
+    ∷ gives 5 (bytes 0x01 0x80 0 0 0) (bytes 0x82 0 0 0 0) (bytes 0x01 0x80 0 0 0)
+    ∷ gives 15 (bytes 0 0xFF 0x18 0x02 0) (bytes 0 0xFF 0xE8 0xFD 0) (bytes 0 0xFF 0 0 0)
+    ∷ gives 15 (bytes 0 0xFF 0 0 0) (bytes 0 0xFF 0xFF 0xFF 0) (bytes 0x81 0x80 0 0 0)
+    ∷ gives 15 (bytes 0x81 0x80 0 0 0) (bytes 0x80 0x7F 0xFF 0xFF 0xFF) zeros
+    ∷ gives 15 (bytes 0x81 0xFF 0xFF 0xFF 0xFF) (bytes 0x81 0xFF 0xFF 0xFF 0xFE) (bytes 0x82 0xFF 0xFF 0xFF 0xFE)
+    ∷ turns 58 (bytes 0x91 0x80 0 0x80 0) (bytes 0x91 0x80 0 0x80 0)
+    ∷ turns 39 (bytes 0x90 0xFF 0xFF 0x80 0) (bytes 0 0xFF 0 0 0)
+    ∷ []
+
+pub starred-hold : map (λ (c : Case). operateOf (c .stack) (c .depth) (c .literal)) starred ≡ map (λ (c : Case). c .leaves) starred
+unfolding
+    operateOf settled reportOf bytesAfter stored putIn bytesOf numberIn overLimits notInTable noRoom noRoomFor isMalformed malformed
+    malformedOperand isTooBig tooBig operationOf takes leaves rowOf quotientOf restackedQuotient fullQuotient tried rounds normal closed ended
+    restacked fullOfShort formOf leadingZeros sumOf shortRoute fullRoute alignedSum endedSum aligned shortValue truncated truncatedFull taken65536
+    intOf differenceOf negated passesZeroTest
+starred-hold = refl
+
+-- "A run whole: bench of 10 bytes holding 00 00 06 00 00 00 00 02 00 00, depth 2, literals 5, 49, 49. [..] Answer: report 4, position 2, depth 2,
+-- bench 82 40 00 00 00 twice."
+pub worked-run :
+    runOf (0 ∷ 0 ∷ 6 ∷ 0 ∷ 0 ∷ 0 ∷ 0 ∷ 2 ∷ 0 ∷ 0 ∷ []) 2 (5 ∷ 49 ∷ 49 ∷ [])
+    ≡ (record { report = 4; position = 2; depth = 2 }, 0x82 ∷ 0x40 ∷ 0 ∷ 0 ∷ 0 ∷ 0x82 ∷ 0x40 ∷ 0 ∷ 0 ∷ 0 ∷ [])
+unfolding
+    runOf goOn operateOf settled reportOf bytesAfter stored putIn bytesOf numberIn overLimits tooManyLiterals notInTable noRoom noRoomFor
+    isMalformed malformed malformedOperand isTooBig tooBig operationOf takes leaves rowOf quotientOf restackedQuotient fullQuotient tried rounds
+    normal closed ended restacked fullOfShort formOf leadingZeros
+worked-run = refl
