@@ -31,8 +31,6 @@ wraps a b h g = go (ltb ((a + b) % 2 ^ 16) a) refl
 pub carries : (a b : ℕ) → a < 2 ^ 16 → b < 2 ^ 16 → 2 ^ 16 ≤ a + b → carryOf ((a + b) % 2 ^ 16) a ≡ 1
 carries a b h g k = simp (lt-ltb ((a + b) % 2 ^ 16) a (omega arith))
 
-
-
 differences : (a b d e : ℕ) → (pos a -ℤ pos d) +ℤ (pos b -ℤ pos e) ≡ pos (a + b) -ℤ pos (d + e)
 differences a b d e =
     let m = negℤ (pos d) in

@@ -43,7 +43,12 @@ pub(crate) fn step(stack: &mut [u8], depth: &mut usize, literal: u8) -> u8
         return moving::delete(depth, table::DELETE.takes, table::DELETE.leaves);
     }
     if literal == table::DUPLICATE.literal {
-        return moving::duplicate(stack, depth, table::DUPLICATE.takes, table::DUPLICATE.leaves);
+        return moving::duplicate(
+            stack,
+            depth,
+            table::DUPLICATE.takes,
+            table::DUPLICATE.leaves,
+        );
     }
     step_two(stack, depth, literal)
 }
@@ -55,10 +60,22 @@ fn step_two(stack: &mut [u8], depth: &mut usize, literal: u8) -> u8
     ensures { λ r. ⌜ Stepped (now (stack .entry)) (now (depth .entry)) literal r (now (depth .exit)) (now (stack .exit)) ⌝ }
 {
     if literal == table::SUBTRACT.literal {
-        return two::two(stack, depth, literal, table::SUBTRACT.takes, table::SUBTRACT.leaves);
+        return two::two(
+            stack,
+            depth,
+            literal,
+            table::SUBTRACT.takes,
+            table::SUBTRACT.leaves,
+        );
     }
     if literal == table::DIVIDE.literal {
-        return two::two(stack, depth, literal, table::DIVIDE.takes, table::DIVIDE.leaves);
+        return two::two(
+            stack,
+            depth,
+            literal,
+            table::DIVIDE.takes,
+            table::DIVIDE.leaves,
+        );
     }
     if literal == table::ADD.literal {
         return two::two(stack, depth, literal, table::ADD.takes, table::ADD.leaves);
@@ -73,16 +90,34 @@ fn step_one(stack: &mut [u8], depth: &mut usize, literal: u8) -> u8
     ensures { λ r. ⌜ Stepped (now (stack .entry)) (now (depth .entry)) literal r (now (depth .exit)) (now (stack .exit)) ⌝ }
 {
     if literal == table::NEGATE.literal {
-        return one::one(stack, depth, literal, table::NEGATE.takes, table::NEGATE.leaves);
+        return one::one(
+            stack,
+            depth,
+            literal,
+            table::NEGATE.takes,
+            table::NEGATE.leaves,
+        );
     }
     if literal == table::INT.literal {
         return one::one(stack, depth, literal, table::INT.takes, table::INT.leaves);
     }
     if literal == table::TRUNCATE.literal {
-        return one::one(stack, depth, literal, table::TRUNCATE.takes, table::TRUNCATE.leaves);
+        return one::one(
+            stack,
+            depth,
+            literal,
+            table::TRUNCATE.takes,
+            table::TRUNCATE.leaves,
+        );
     }
     if literal == table::RE_STACK.literal {
-        return one::one(stack, depth, literal, table::RE_STACK.takes, table::RE_STACK.leaves);
+        return one::one(
+            stack,
+            depth,
+            literal,
+            table::RE_STACK.takes,
+            table::RE_STACK.leaves,
+        );
     }
-    5
+    5 // not in the table
 }

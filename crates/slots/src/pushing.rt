@@ -23,7 +23,10 @@ pub fn push(stack: &mut [u8], depth: usize, number: &[u8]) -> Outcome
     let b3 = number[2];
     let b4 = number[3];
     let b5 = number[4];
-    if number::is_malformed(Number { b1, word: number::joined(b2, b3, b4, b5) }) {
+    if number::is_malformed(Number {
+        b1,
+        word: number::joined(b2, b3, b4, b5),
+    }) {
         return Outcome { report: 3, depth };
     }
     stack[at] = b1;

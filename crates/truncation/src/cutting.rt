@@ -24,7 +24,10 @@ pub fn truncate(x: Number) -> Number
         return number::zero();
     }
     if e < 145 {
-        return number::short(number::sign_of(x), (number::mantissa(x) >> (160 - e)) as u16);
+        return number::short(
+            number::sign_of(x),
+            (number::mantissa(x) >> (160 - e)) as u16,
+        );
     }
     if is_taken_65536(x) {
         return number::short_halves(255, 0);
