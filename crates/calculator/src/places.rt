@@ -5,6 +5,14 @@ ghost use Prim.Native.Nat.{_+_, _*_, _≤_};
 ghost use lib.ListN.{length};
 ghost use Rattle.slots.specs.Slots.{slot as slotOf, numberIn, putSlot, putIn};
 
+// The exponent byte alone. Asked first, it lets the compiler read the word of a full number at once, where a form test would split it.
+pub(crate) fn b1_in(stack: &[u8], slot: usize) -> u8
+    requires { ⌜ 5 * slot + 5 ≤ length (now stack) ⌝ }
+    ensures { λ r. ⌜ r ≡ numberIn (now (stack .entry)) slot .b1 ⌝ }
+{
+    stack[5 * slot]
+}
+
 pub(crate) fn number_in(stack: &[u8], slot: usize) -> Number
     requires { ⌜ 5 * slot + 5 ≤ length (now stack) ⌝ }
     ensures { λ r. ⌜ r ≡ numberIn (now (stack .entry)) slot ⌝ }

@@ -18,6 +18,7 @@ struct Operands {
     second: Number,
 }
 
+// Two full numbers need no test of their forms.
 fn read_two(stack: &[u8], depth: usize, taken: usize) -> Operands
     requires { ⌜ Within (now stack) depth × (taken ≡ 2) ⌝ }
     ensures { λ r. ⌜ TwoRead (now (stack .entry)) depth r ⌝ }
@@ -28,6 +29,15 @@ fn read_two(stack: &[u8], depth: usize, taken: usize) -> Operands
             first: number::zero(),
             second: number::zero(),
         };
+    }
+    if places::b1_in(stack, depth - 2) != 0 {
+        if places::b1_in(stack, depth - 1) != 0 {
+            return Operands {
+                report: 0,
+                first: places::number_in(stack, depth - 2),
+                second: places::number_in(stack, depth - 1),
+            };
+        }
     }
     let first = places::number_in(stack, depth - 2);
     let second = places::number_in(stack, depth - 1);
