@@ -1,18 +1,21 @@
 -- Report 0 says that no row of the table of reports holds.
-use Prim.Native.Nat.{ℕ, suc, _*_, _≤_}
+use Prim.Native.Nat.{ℕ, suc, _+_, _*_, _≤_}
 use mathlib.Core.Path.{_≡_, refl}
-use mathlib.Core.Bool.{Bool, true, false}
+use mathlib.Core.Bool.{Bool, true, false, cond}
 use mathlib.Core.List.{List}
 use native.Mathlib.Omega.{arith}
-use lib.Dec.{ltb}
+use lib.Dec.{eqb, ltb}
 use lib.ListN.{length}
-use borrow.Author.Tests.{ltb-false}
-use Rattle.calculator.specs.Literals.{pick, operationOf, takes}
-use Rattle.calculator.specs.Reports.{overLimits, notInTable, noRoom, noRoomFor, malformedOperand, tooBig, notANumber, reportOf, pushReport}
-use Rattle.calculator.specs.ReportLaws.{within-of}
+use borrow.Author.Tests.{ltb-false, eqb-true}
+use Rattle.number.specs.Number.{malformed}
+use Rattle.slots.specs.Slots.{numberIn}
+use Rattle.slots.specs.Reports.{overLimits, noRoom, notANumber, pushReport}
+use Rattle.slots.specs.LimitLaws.{within-of}
+use Rattle.calculator.specs.Literals.{operationOf, takes}
+use Rattle.calculator.specs.Reports.{notInTable, noRoomFor, malformedOperand, tooBig, reportOf}
 
 -- a row that is passed over does not hold
-passed : (b : Bool) (n r : ℕ) → pick b (suc n) r ≡ 0 → (b ≡ false) × (r ≡ 0)
+passed : (b : Bool) (n r : ℕ) → cond b (suc n) r ≡ 0 → (b ≡ false) × (r ≡ 0)
 passed true n r e = absurd (omega arith)
 passed false n r e = (refl, e)
 
@@ -50,3 +53,16 @@ pushable s d p e =
     let p4 = passed (noRoom s d) 3 _ (p1 .1) in
     let p3 = passed (notANumber p) 2 _ (p4 .1) in
     record { limits = p1 .0; room = p4 .0; number = p3 .0 }
+
+five : (p : List ℕ) → notANumber p ≡ false → length p ≡ 5
+unfolding notANumber
+five p h = go (eqb (length p) 5) refl h
+  where
+    go : (b : Bool) → eqb (length p) 5 ≡ b → cond b (malformed (numberIn p 0)) true ≡ false → length p ≡ 5
+    go true e g = eqb-true (length p) 5 e
+    go false e g = absurd (let z : _≡_ {A = ℕ} 0 1 = cc in omega arith)
+
+-- an accepted push has room, and its bytes are five
+pub fits : (s : List ℕ) (d : ℕ) (p : List ℕ) → Pushable s d p → (5 * d + 5 ≤ length s) × (length p ≡ 5)
+unfolding noRoom
+fits s d p a = (omega (arith, ltb-false (length s) (5 * (d + 1)) (a .room)), five p (a .number))

@@ -4,15 +4,17 @@
 use Prim.Native.Nat.{ℕ, zero, suc}
 use mathlib.Core.Path.{_≡_, refl, sym, _∙_}
 use mathlib.Core.Logic.{_↔_}
-use mathlib.Core.Bool.{Bool, true, false}
+use mathlib.Core.Bool.{Bool, true, false, cond, _||_}
 use mathlib.Core.List.{List, [], _∷_}
 use borrow.Author.Tests.{ne-eqb}
 use Rattle.display.specs.declared.shown.Cell.{Cell}
 use Rattle.display.specs.declared.shown.Cell.the-variants.{Refused, Blank, Odd, Value}
-use Rattle.calculator.specs.Literals.{pick}
-use Rattle.calculator.specs.Reports.{When, first, rows, pushRows, either, overLimits, tooManyLiterals, reportOf, pushReport}
-use Rattle.calculator.specs.Operate.{settled, operateOf, pushOf}
-use Rattle.calculator.specs.OperateLaws.{operate-kept, push-kept}
+use Rattle.slots.specs.Reports.{When, first, pushRows, overLimits, pushReport}
+use Rattle.slots.specs.Push.{settled, pushOf}
+use Rattle.slots.specs.PushLaws.{settled-refused}
+use Rattle.calculator.specs.Reports.{rows, tooManyLiterals, reportOf}
+use Rattle.calculator.specs.Operate.{operateOf}
+use Rattle.calculator.specs.OperateLaws.{operate-kept}
 use Rattle.calculator.specs.Run.{goOn, runOf}
 use Rattle.display.specs.Cell.{cellOf, reportIn, carriedBy, nothing}
 use Rattle.display.specs.CellLaws.{cell-refused}
@@ -40,7 +42,7 @@ first-given : (ws : List When) → (first ws ≡ 0 → ⊥) → Given (first ws)
 first-given [] h = absurd (h refl)
 first-given (w ∷ ws) h = go (w .holds) refl (λ k. first-given ws k) h
   where
-    go : (b : Bool) → w .holds ≡ b → ((first ws ≡ 0 → ⊥) → Given (first ws) ws) → (pick b (w .number) (first ws) ≡ 0 → ⊥) → Given (pick b (w .number) (first ws)) (w ∷ ws)
+    go : (b : Bool) → w .holds ≡ b → ((first ws ≡ 0 → ⊥) → Given (first ws) ws) → (cond b (w .number) (first ws) ≡ 0 → ⊥) → Given (cond b (w .number) (first ws)) (w ∷ ws)
     go true e r k = here e
     go false e r k = later e (r k)
 
@@ -64,7 +66,8 @@ pub refused-operation : (s : List ℕ) (d l : ℕ) → (reportOf s d l ≡ 0 →
 refused-operation s d l h = operate-kept s d l _ _ refl (λ e. h (sym (operation-report s d l) ∙ e))
 
 pub refused-push : (s : List ℕ) (d : ℕ) (p : List ℕ) → (pushReport s d p ≡ 0 → ⊥) → (pushOf s d p .1 ≡ s) × (pushOf s d p .0 .depth ≡ d)
-refused-push s d p h = push-kept s d p _ _ refl (λ e. h (sym (push-report s d p) ∙ e))
+unfolding pushOf
+refused-push s d p h = settled-refused (pushReport s d p) d s _ _ _ _ refl (λ e. h (sym (push-report s d p) ∙ e))
 
 -- A run step that is refused: the run stops there, with the step's report, and the stack and the depth that the step found.
 pub refused-step : (l : ℕ) (ls : List ℕ) (i : ℕ) (s : List ℕ) (d : ℕ) → (reportOf s d l ≡ 0 → ⊥)
@@ -73,7 +76,7 @@ unfolding goOn
 refused-step l ls i s d h = simp (operation-report s d l, ne-eqb (reportOf s d l) 0 h)
 
 -- "A run checks report 1 once, even for an empty list, and refuses with nothing done and position 0."
-pub refused-run : (s : List ℕ) (d : ℕ) (ls : List ℕ) → either (overLimits s d) (tooManyLiterals ls) ≡ true
+pub refused-run : (s : List ℕ) (d : ℕ) (ls : List ℕ) → overLimits s d || tooManyLiterals ls ≡ true
     → runOf s d ls ≡ (record { report = 1; position = 0; depth = d }, s)
 unfolding runOf
 refused-run s d ls h = simp h

@@ -1,13 +1,10 @@
 -- Demand 2: "Each accepted operation leaves exactly the five bytes, depth and untouched neighbours that document 01's rules give."
 use Prim.Native.Nat.{ℕ, _+_, _-_, _*_, _≤_, _<_}
-use mathlib.Core.Path.{_≡_, refl, sym, _∙_, ap}
-use mathlib.Core.Bool.{Bool, true, false}
+use mathlib.Core.Path.{_≡_, refl, _∙_, ap}
 use mathlib.Core.List.{List}
 use native.Mathlib.Omega.{arith}
 use lib.ListN.{length, getD}
-use lib.Dec.{eqb}
-use lib.Seq.{take-all}
-use borrow.Author.Tests.{ltb-false, eqb-true}
+use borrow.Author.Tests.{ltb-false}
 use Rattle.number.specs.declared.Number.{Number}
 use Rattle.number.specs.Restack.{restacked}
 use Rattle.number.specs.Negate.{negated}
@@ -17,16 +14,17 @@ use Rattle.division.specs.Division.{quotientOf}
 use Rattle.truncation.specs.Int.{intOf}
 use Rattle.ending.specs.declared.answer.Answer.{Answer}
 use Rattle.ending.specs.declared.answer.Answer.the-variants.{Done}
-use Rattle.slots.specs.Slots.{slot, numberIn, bytesOf, putIn}
-use Rattle.slots.specs.SlotLaws.{length-putIn}
-use Rattle.calculator.specs.Literals.{pick, Operation, exchange, delete, duplicate, one, two, rowOf, operationOf, takes, leaves}
-use Rattle.calculator.specs.Reports.{top, lower, malformed, noRoom, noRoomFor, notANumber, tooBig, reportOf, pushReport}
-use Rattle.calculator.specs.Operate.{stored, bytesAfter, operateOf, pushOf}
-use Rattle.calculator.specs.OperateLaws.{operate-done, push-done}
-use Rattle.demands.specs.SlotFacts.{slot-bytes, put-slot, put-elsewhere, put-there}
-use Rattle.demands.specs.Accepted.{accepted, within, pushable}
+use Rattle.slots.specs.Slots.{slot, bytesOf, putSlot, top, lower}
+use Rattle.slots.specs.Reports.{noRoom, pushReport}
+use Rattle.slots.specs.Push.{settled, pushOf}
+use Rattle.calculator.specs.Literals.{Operation, exchange, delete, duplicate, one, two, rowOf, operationOf, takes, leaves}
+use Rattle.calculator.specs.Reports.{noRoomFor, tooBig, reportOf}
+use Rattle.calculator.specs.Operate.{stored, bytesAfter, operateOf}
+use Rattle.calculator.specs.OperateLaws.{operate-done}
+use Rattle.demands.specs.SlotFacts.{length-slot, same-slot}
+use Rattle.demands.specs.Accepted.{accepted, within, pushable, fits}
 use Rattle.demands.specs.Counts.{takesOf, takes-are}
-use Rattle.demands.specs.Bytes.{Only, only-put, number-of, same-slot}
+use Rattle.demands.specs.Bytes.{Only, only-put, number-of}
 
 -- the ten literals
 pub literals : (operationOf 1 ≡ exchange) × (operationOf 2 ≡ delete) × (operationOf 3 ≡ two differenceOf) × (operationOf 5 ≡ two quotientOf)
@@ -50,18 +48,18 @@ module _ (s : List ℕ) (d l : ℕ) (ok : reportOf s d l ≡ 0) where
   -- "The lower operand is the first, and the result stands in its slot", for subtract, divide and add. The second's slot is elsewhere.
   pub after-two : (f : Number → Number → Answer) → operationOf l ≡ two f
       → (n : Number) × (f (lower s d) (top s d) ≡ Done n) × Only s (operateOf s d l .1) (d - 2) (bytesOf n)
-  unfolding tooBig bytesAfter stored
+  unfolding tooBig bytesAfter stored bytesOf
   after-two f e =
       let a = number-of (f (lower s d) (top s d)) (simp e at (accepted s d l ok .small)) in
-      (a .0, a .1, rw left (simp (e, a .1) (only-put s (d - 2) (a .0) (omega (arith, stands (two f) e)))))
+      (a .0, a .1, rw left (simp (e, a .1) (only-put s (d - 2) (bytesOf (a .0)) (omega (arith, stands (two f) e)) refl)))
 
   -- for negate, int, truncate and re-stack
   pub after-one : (f : Number → Answer) → operationOf l ≡ one f
       → (n : Number) × (f (top s d) ≡ Done n) × Only s (operateOf s d l .1) (d - 1) (bytesOf n)
-  unfolding tooBig bytesAfter stored
+  unfolding tooBig bytesAfter stored bytesOf
   after-one f e =
       let a = number-of (f (top s d)) (simp e at (accepted s d l ok .small)) in
-      (a .0, a .1, rw left (simp (e, a .1) (only-put s (d - 1) (a .0) (omega (arith, stands (one f) e)))))
+      (a .0, a .1, rw left (simp (e, a .1) (only-put s (d - 1) (bytesOf (a .0)) (omega (arith, stands (one f) e)) refl)))
 
   -- "2 changes no byte"
   pub after-delete : operationOf l ≡ delete → operateOf s d l .1 ≡ s
@@ -73,8 +71,7 @@ module _ (s : List ℕ) (d l : ℕ) (ok : reportOf s d l ≡ 0) where
   unfolding bytesAfter noRoomFor noRoom
   after-duplicate e =
       let r = ltb-false (length s) (5 * (d + 1)) (simp e at (accepted s d l ok .room)) in
-      let b = slot-bytes s (d - 1) (omega (arith, stands duplicate e)) in
-      rw left (simp (e, b) (only-put s d (top s d) (omega arith)))
+      rw left (simp e (only-put s d (slot s (d - 1)) (omega arith) (length-slot s (d - 1) (omega (arith, stands duplicate e)))))
 
   -- "1 swaps": each slot has the other's five bytes, and every byte outside the two is as it was
   pub after-exchange : operationOf l ≡ exchange
@@ -87,42 +84,21 @@ module _ (s : List ℕ) (d l : ℕ) (ok : reportOf s d l ≡ 0) where
       let w = stands exchange e in
       let below : 5 * (d - 2) + 5 ≤ length s = omega arith in
       let above : 5 * (d - 1) + 5 ≤ length s = omega arith in
-      let s₁ = putIn s (d - 2) (top s d) in
-      let long : length s₁ ≡ length s = length-putIn s (d - 2) (top s d) below in
-      let above₁ : 5 * (d - 1) + 5 ≤ length s₁ = omega arith in
-      let s₂ = putIn s₁ (d - 1) (lower s d) in
-      let long₂ : length s₂ ≡ length s₁ = length-putIn s₁ (d - 1) (lower s d) above₁ in
+      let s₁ = putSlot s (d - 2) (slot s (d - 1)) in
+      let s₂ = putSlot s₁ (d - 1) (slot s (d - 2)) in
+      let p₁ = only-put s (d - 2) (slot s (d - 1)) below (length-slot s (d - 1) above) in
+      let p₂ = only-put s₁ (d - 1) (slot s (d - 2)) (omega (arith, p₁ .long)) (length-slot s (d - 2) below) in
       let q : operateOf s d l .1 ≡ s₂ = left ∙ simp e in
-      let same : numberIn s₂ (d - 2) ≡ numberIn s₁ (d - 2) =
-      same-slot s₂ s₁ (d - 2) (omega arith) (omega arith) (λ k h h′. put-elsewhere s₁ (d - 1) above₁ (lower s d) k (λ g g′. omega arith)) in
       rw q (
-        long₂ ∙ long,
-        put-slot s₁ (d - 1) above₁ (lower s d) ∙ sym (slot-bytes s (d - 2) below),
-        slot-bytes s₂ (d - 2) (omega arith)
-            ∙ (ap bytesOf (same ∙ put-there s (d - 2) below (top s d)) ∙ sym (slot-bytes s (d - 1) above)),
-        (λ k o.
-            put-elsewhere s₁ (d - 1) above₁ (lower s d) k (λ g g′. o (omega arith) (omega arith))
-            ∙ put-elsewhere s (d - 2) below (top s d) k (λ g g′. o (omega arith) (omega arith))),
+        p₂ .long ∙ p₁ .long,
+        p₂ .there,
+        same-slot s₂ (d - 2) (omega (arith, p₁ .long, p₂ .long)) s₁ (omega (arith, p₁ .long)) (λ k h. p₂ .elsewhere k (λ g g′. omega arith))
+            ∙ p₁ .there,
+        (λ k o. p₂ .elsewhere k (λ g g′. o (omega arith) (omega arith)) ∙ p₁ .elsewhere k (λ g g′. o (omega arith) (omega arith))),
       )
-
-five : (p : List ℕ) → notANumber p ≡ false → length p ≡ 5
-unfolding notANumber
-five p h = go (eqb (length p) 5) refl h
-  where
-    go : (b : Bool) → eqb (length p) 5 ≡ b → pick b (malformed (numberIn p 0)) true ≡ false → length p ≡ 5
-    go true e g = eqb-true (length p) 5 e
-    go false e g = absurd (let z : _≡_ {A = ℕ} 0 1 = cc in omega arith)
 
 -- "A push writes its five bytes, b5 included, into slot depth, and the depth rises by one."
 pub after-push : (s : List ℕ) (d : ℕ) (p : List ℕ) → pushReport s d p ≡ 0
     → (pushOf s d p .0 .depth ≡ d + 1) × Only s (pushOf s d p .1) d p
-unfolding noRoom slot
-after-push s d p ok =
-    let a = pushable s d p ok in
-    let r = ltb-false (length s) (5 * (d + 1)) (a .room) in
-    let f = five p (a .number) in
-    let whole : bytesOf (numberIn p 0) ≡ p = sym (slot-bytes p 0 (omega arith)) ∙ take-all 5 p (omega arith) in
-    let q = push-done s d p ok in (
-      ap (λ x. x .0 .depth) q,
-      rw (ap (λ x. x .1) q) (rw whole at (only-put s d (numberIn p 0) (omega arith))),
-    )
+unfolding pushOf settled
+after-push s d p ok = let a = fits s d p (pushable s d p ok) in simp ok (refl, only-put s d p (a .0) (a .1))

@@ -2,7 +2,7 @@
 -- (literals done before it), and bench and depth as those left them. Report 0 has the list's length as position."
 use Prim.Native.Nat.{ℕ, suc, _+_, _<_}
 use mathlib.Core.Path.{_≡_, refl, sym, _∙_, ap}
-use mathlib.Core.Bool.{Bool, true, false}
+use mathlib.Core.Bool.{Bool, true, false, cond, _||_}
 use mathlib.Core.List.{List, [], _∷_}
 use mathlib.Core.Logic.{_⊎_, inl, inr}
 use native.Mathlib.Omega.{arith}
@@ -10,8 +10,8 @@ use lib.Dec.{eqb}
 use lib.ListN.{length, getD, take}
 use borrow.Author.Tests.{eqb-true, eqb-false}
 use Rattle.calculator.specs.declared.outcome.RunOutcome.{RunOutcome}
-use Rattle.calculator.specs.Literals.{pick}
-use Rattle.calculator.specs.Reports.{either, overLimits, tooManyLiterals, reportOf}
+use Rattle.slots.specs.Reports.{overLimits}
+use Rattle.calculator.specs.Reports.{tooManyLiterals, reportOf}
 use Rattle.calculator.specs.Operate.{operateOf}
 use Rattle.calculator.specs.Run.{goOn, runOf}
 use Rattle.demands.specs.Demand1.{operation-report}
@@ -46,7 +46,7 @@ since (l ∷ ls) i s d = go (eqb (operateOf s d l .0 .report) 0) refl (since ls 
     o = goOn ls (i + 1) (operateOf s d l .1) (operateOf s d l .0 .depth)
 
     go : (b : Bool) → eqb (operateOf s d l .0 .report) 0 ≡ b → Since ls (i + 1) (operateOf s d l .1) (operateOf s d l .0 .depth) o
-        → Since (l ∷ ls) i s d (pick b o (record { report = operateOf s d l .0 .report; position = i; depth = d }, s))
+        → Since (l ∷ ls) i s d (cond b o (record { report = operateOf s d l .0 .report; position = i; depth = d }, s))
     go true e h =
         let ok : reportOf s d l ≡ 0 = sym (operation-report s d l) ∙ eqb-true _ _ e in
         (suc (h .0), omega (arith, h .1), record { done = more ok (h .2 .done); next = more-next ls (h .0) _ _ _ l (h .2 .next) })
@@ -55,7 +55,7 @@ since (l ∷ ls) i s d = go (eqb (operateOf s d l .0 .report) 0) refl (since ls 
 
 -- A run that report 1 does not stop: as many literals as its position says were done, each accepted in its turn; they left its stack and
 -- its depth; and its report is that of the next literal there, or 0 where the position is the list's length.
-pub position-is-done : (s : List ℕ) (d : ℕ) (ls : List ℕ) → either (overLimits s d) (tooManyLiterals ls) ≡ false
+pub position-is-done : (s : List ℕ) (d : ℕ) (ls : List ℕ) → overLimits s d || tooManyLiterals ls ≡ false
     → let x = runOf s d ls in Stopped ls s d (x .0 .position) (x .0 .report) (x .1) (x .0 .depth)
 unfolding runOf Since
 position-is-done s d ls h =

@@ -1,4 +1,4 @@
--- Demand 3, of literal 5's own report and bytes on a stack. The record `Demand3` of crate arithmetic states its clauses over the rounds; here its
+-- Demand 3, of literal 5's own report and bytes on a stack. The record `Demand3` of crate division states its clauses over the rounds; here its
 -- answer is what literal 5 leaves: report 6, or the number in the dividend's slot.
 use Prim.Native.Nat.{ℕ, _+_, _-_, _≤_, _<_}
 use mathlib.Core.Path.{_≡_, refl, sym, _∙_, ap, subst⁻¹}
@@ -11,7 +11,7 @@ use borrow.Author.Tests.{eq-eqb, ne-eqb}
 use Rattle.number.specs.declared.Number.{Number}
 use Rattle.number.specs.declared.form.Form.{Form}
 use Rattle.number.specs.declared.form.Form.the-variants.{Full, Short, Odd, Malformed}
-use Rattle.number.specs.Number.{formOf, mantissa}
+use Rattle.number.specs.Number.{formOf, isMalformed, malformed, mantissa}
 use Rattle.number.specs.Restack.{restacked}
 use Rattle.ending.specs.declared.answer.Answer.{Answer}
 use Rattle.ending.specs.declared.answer.Answer.the-variants.{Done, TooBig}
@@ -20,10 +20,11 @@ use Rattle.division.specs.Operand.{Operand}
 use Rattle.division.specs.Demand3.{added, Demand3}
 use Rattle.division.specs.Demand3Laws.{demand3}
 use Rattle.slots.specs.declared.outcome.Outcome.{Outcome}
-use Rattle.slots.specs.Slots.{numberIn}
+use Rattle.slots.specs.Slots.{numberIn, lower, top}
+use Rattle.slots.specs.LimitLaws.{Within}
 use Rattle.calculator.specs.Literals.{rowOf, operationOf, takes}
-use Rattle.calculator.specs.Reports.{lower, top, notInTable, noRoomFor, isMalformed, malformed, malformedOperand, isTooBig, tooBig, reportOf}
-use Rattle.calculator.specs.ReportLaws.{Within, Reached, report-6, report-0}
+use Rattle.calculator.specs.Reports.{notInTable, noRoomFor, malformedOperand, isTooBig, tooBig, reportOf}
+use Rattle.calculator.specs.ReportLaws.{Reached, report-6, report-0}
 use Rattle.calculator.specs.Operate.{stored, bytesAfter, operateOf}
 use Rattle.calculator.specs.OperateLaws.{operate-done}
 use Rattle.demands.specs.SlotFacts.{put-there}
@@ -49,7 +50,7 @@ module _ (s : List ℕ) (d : ℕ) (h : Divides s d) where
   room = refl
 
   formed : (x : Number) → (formOf x ≡ Malformed → ⊥) → malformed x ≡ false
-  unfolding malformed isMalformed
+  unfolding malformed
   formed x n = go (formOf x) refl
     where
       go : (f : Form) → formOf x ≡ f → isMalformed f ≡ false

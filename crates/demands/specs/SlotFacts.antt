@@ -1,61 +1,73 @@
--- What putting a number into a slot changes, byte by byte, and what it leaves.
-use Prim.Native.Nat.{ℕ, suc, _+_, _*_, _≤_, _<_}
+-- What a slot is read as, what putting five bytes into it changes, byte by byte, and what that leaves. Byte k is in slot k / 5.
+use Prim.Native.Nat.{ℕ, _+_, _*_, _/_, _%_, _≤_, _<_}
 use mathlib.Core.Path.{_≡_, refl, sym, _∙_, ap}
 use mathlib.Core.List.{List, _++_, append-assoc}
-use native.Mathlib.Nat.{add-zero}
 use native.Mathlib.Omega.{arith}
-use native.Mathlib.Numerals.{towards-suc}
 use lib.ListN.{length, getD, take, drop, List·getD-append}
-use lib.Seq.{drop-cons, drop-at, take-at, length-take-le, getD-drop, getD-set-other}
+use lib.Seq.{drop-at, take-at, length-take-le, getD-drop, getD-set-other}
 use Rattle.number.specs.declared.Number.{Number}
-use Rattle.slots.specs.Slots.{slot, numberIn, bytesOf, putIn}
-use Rattle.slots.specs.SlotLaws.{five-stores}
+use Rattle.number.specs.Number.{b2, b3, b4, b5, wordOf}
+use Rattle.number.specs.NumberLaws.{places}
+use Rattle.slots.specs.Slots.{slot, numberIn, bytesOf, putSlot, putIn}
+use Rattle.slots.specs.SlotLaws.{five-stores, slot-five, length-putSlot, five-of}
+
+-- the four bytes of a word make the word
+word-of : (n : Number) → wordOf (b2 n) (b3 n) (b4 n) (b5 n) ≡ n .word
+word-of n = omega (arith, places (n .word))
 
 module _ (s : List ℕ) (i : ℕ) (h : 5 * i + 5 ≤ length s) where
-  -- a slot is the five bytes of its number
-  pub slot-bytes : slot s i ≡ bytesOf (numberIn s i)
-  unfolding slot bytesOf numberIn
-  slot-bytes =
-      simp towards-suc
-      (rw (
-        drop-cons s (5 * i) 0 (omega arith),
-        drop-cons s (suc (5 * i)) 0 (omega arith),
-        drop-cons s (suc (suc (5 * i))) 0 (omega arith),
-        drop-cons s (suc (suc (suc (5 * i)))) 0 (omega arith),
-        drop-cons s (suc (suc (suc (suc (5 * i))))) 0 (omega arith),
-      ))
+  pub length-slot : length (slot s i) ≡ 5
+  length-slot = ap length (slot-five s i h)
 
-  module _ (n : Number) where
-    from-slot : drop (5 * i) (putIn s i n) ≡ bytesOf n ++ drop (5 * i + 5) s
-    unfolding putIn
-    from-slot =
-        rw append-assoc (drop-at (take (5 * i) s) (bytesOf n ++ drop (5 * i + 5) s) (5 * i) (length-take-le (5 * i) s (omega arith)))
+  -- a number is read from the five bytes of its slot alone
+  pub number-slot : numberIn s i ≡ numberIn (slot s i) 0
+  unfolding numberIn
+  number-slot = rw slot-five
 
-    -- the slot holds the number's five bytes
-    pub put-slot : slot (putIn s i n) i ≡ bytesOf n
-    unfolding slot bytesOf
-    put-slot = rw from-slot (take-at (bytesOf n) (drop (5 * i + 5) s) 5 refl)
+  -- two stacks with the same bytes there have the same slot
+  pub same-slot : (s′ : List ℕ) → 5 * i + 5 ≤ length s′ → ((k : ℕ) → k / 5 ≡ i → getD s k 0 ≡ getD s′ k 0) → slot s i ≡ slot s′ i
+  same-slot s′ h′ e =
+      rw (
+        slot-five s i h,
+        slot-five s′ i h′,
+        e (5 * i) (omega arith),
+        e (5 * i + 1) (omega arith),
+        e (5 * i + 2) (omega arith),
+        e (5 * i + 3) (omega arith),
+        e (5 * i + 4) (omega arith),
+      )
 
-    byte : (j : ℕ) → getD (putIn s i n) (5 * i + j) 0 ≡ getD (bytesOf n ++ drop (5 * i + 5) s) j 0
-    byte j = sym (getD-drop (5 * i) (putIn s i n) j 0) ∙ ap (λ (l : List ℕ). getD l j 0) from-slot
+  module _ (five : List ℕ) (f : length five ≡ 5) where
+    from-slot : drop (5 * i) (putSlot s i five) ≡ five ++ drop (5 * i + 5) s
+    unfolding putSlot
+    from-slot = rw append-assoc (drop-at (take (5 * i) s) (five ++ drop (5 * i + 5) s) (5 * i) (length-take-le (5 * i) s (omega arith)))
 
-    pub put-inside : (j : ℕ) → j < 5 → getD (putIn s i n) (5 * i + j) 0 ≡ getD (bytesOf n) j 0
-    unfolding bytesOf
-    put-inside j b = byte j ∙ List·getD-append (bytesOf n) (drop (5 * i + 5) s) 0 j b
+    -- the slot holds the five bytes
+    pub put-slot : slot (putSlot s i five) i ≡ five
+    unfolding slot
+    put-slot = rw from-slot (take-at five (drop (5 * i + 5) s) 5 f)
 
-    pub put-there : numberIn (putIn s i n) i ≡ n
-    unfolding numberIn bytesOf
-    put-there =
-        let b : getD (putIn s i n) (5 * i) 0 ≡ n .b1 = rw (← add-zero (5 * i)) (byte 0) in
-        λ t. record { b1 = b t; b2 = byte 1 t; b3 = byte 2 t; b4 = byte 3 t; b5 = byte 4 t }
+    pub put-inside : (k : ℕ) → k / 5 ≡ i → getD (putSlot s i five) k 0 ≡ getD five (k % 5) 0
+    put-inside k e =
+        ap (λ (m : ℕ). getD (putSlot s i five) m 0) (omega arith)
+        ∙ sym (getD-drop (5 * i) (putSlot s i five) (k % 5) 0)
+        ∙ ap (λ (l : List ℕ). getD l (k % 5) 0) from-slot
+        ∙ List·getD-append five (drop (5 * i + 5) s) 0 (k % 5) (omega arith)
 
     -- every byte outside the slot is as it was
-    pub put-elsewhere : (k : ℕ) → (5 * i ≤ k → k < 5 * i + 5 → ⊥) → getD (putIn s i n) k 0 ≡ getD s k 0
+    pub put-elsewhere : (k : ℕ) → (5 * i ≤ k → k < 5 * i + 5 → ⊥) → getD (putSlot s i five) k 0 ≡ getD s k 0
     put-elsewhere k o =
-        let other : (j : ℕ) → j < 5 → k ≡ 5 * i + j → ⊥ = λ j b e. o (omega arith) (omega arith) in
-        let n0 : k ≡ 5 * i → ⊥ = λ e. other 0 (omega arith) (omega arith) in
-        let n1 : k ≡ 5 * i + 1 → ⊥ = λ e. other 1 (omega arith) e in
-        let n2 : k ≡ 5 * i + 2 → ⊥ = λ e. other 2 (omega arith) e in
-        let n3 : k ≡ 5 * i + 3 → ⊥ = λ e. other 3 (omega arith) e in
-        let n4 : k ≡ 5 * i + 4 → ⊥ = λ e. other 4 (omega arith) e in
-        rw (← five-stores s i n h) (simp getD-set-other)
+        let n0 : k ≡ 5 * i → ⊥ = λ e. o (omega arith) (omega arith) in
+        let n1 : k ≡ 5 * i + 1 → ⊥ = λ e. o (omega arith) (omega arith) in
+        let n2 : k ≡ 5 * i + 2 → ⊥ = λ e. o (omega arith) (omega arith) in
+        let n3 : k ≡ 5 * i + 3 → ⊥ = λ e. o (omega arith) (omega arith) in
+        let n4 : k ≡ 5 * i + 4 → ⊥ = λ e. o (omega arith) (omega arith) in
+        rw (← five-of five f, ← five-stores s i h _ _ _ _ _) (simp getD-set-other)
+
+-- a number that is put into a slot is read from it
+pub put-there : (s : List ℕ) (i : ℕ) → 5 * i + 5 ≤ length s → (n : Number) → numberIn (putIn s i n) i ≡ n
+unfolding numberIn bytesOf
+put-there s i h n =
+    number-slot (putIn s i n) i (omega (arith, length-putSlot s i h (bytesOf n) refl))
+    ∙ ap (λ (five : List ℕ). numberIn five 0) (put-slot s i h (bytesOf n) refl)
+    ∙ ap (λ (w : ℕ). record { b1 = n .b1; word = w }) (word-of n)

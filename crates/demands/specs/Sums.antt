@@ -4,7 +4,7 @@ use mathlib.Core.Path.{_≡_, refl}
 use mathlib.Core.List.{List, [], _∷_, _++_, map}
 use lib.Count.{leadingZeros}
 use Rattle.number.specs.declared.Number.{Number}
-use Rattle.number.specs.Number.{bytes, zeros, formOf, passesZeroTest}
+use Rattle.number.specs.Number.{bytes, zeros, formOf, malformed, passesZeroTest}
 use Rattle.number.specs.Value.{shortValue}
 use Rattle.number.specs.Restack.{restacked, fullOfShort}
 use Rattle.number.specs.Negate.{negated}
@@ -15,10 +15,12 @@ use Rattle.division.specs.Division.{fullQuotient, restackedQuotient, quotientOf
 use Rattle.addition.specs.Addition.{aligned, endedSum, alignedSum, fullRoute, shortRoute, sumOf, differenceOf}
 use Rattle.truncation.specs.Int.{intOf}
 use Rattle.slots.specs.declared.outcome.Outcome.{Outcome}
-use Rattle.slots.specs.Slots.{numberIn, bytesOf, putIn}
+use Rattle.slots.specs.Slots.{slot, numberIn, bytesOf, putSlot}
+use Rattle.slots.specs.Reports.{overLimits, noRoom}
+use Rattle.slots.specs.Push.{settled}
 use Rattle.calculator.specs.Literals.{rowOf, operationOf, takes, leaves}
-use Rattle.calculator.specs.Reports.{overLimits, tooManyLiterals, notInTable, noRoom, noRoomFor, isMalformed, malformed, malformedOperand, isTooBig, tooBig, reportOf}
-use Rattle.calculator.specs.Operate.{stored, bytesAfter, settled, operateOf}
+use Rattle.calculator.specs.Reports.{tooManyLiterals, notInTable, noRoomFor, malformedOperand, isTooBig, tooBig, reportOf}
+use Rattle.calculator.specs.Operate.{stored, bytesAfter, operateOf}
 use Rattle.calculator.specs.Run.{goOn, runOf}
 
 -- a stack, its depth and a literal, with what the literal leaves
@@ -61,7 +63,7 @@ starred =
 
 pub starred-hold : map (λ (c : Case). operateOf (c .stack) (c .depth) (c .literal)) starred ≡ map (λ (c : Case). c .leaves) starred
 unfolding
-    operateOf settled reportOf bytesAfter stored putIn bytesOf numberIn overLimits notInTable noRoom noRoomFor isMalformed malformed
+    operateOf settled reportOf bytesAfter stored putSlot bytesOf numberIn overLimits notInTable noRoom noRoomFor malformed
     malformedOperand isTooBig tooBig operationOf takes leaves rowOf quotientOf restackedQuotient fullQuotient tried rounds normal closed ended
     restacked fullOfShort formOf leadingZeros sumOf shortRoute fullRoute alignedSum endedSum aligned shortValue truncated truncatedFull taken65536
     intOf differenceOf negated passesZeroTest
@@ -73,7 +75,7 @@ pub worked-run :
     runOf (0 ∷ 0 ∷ 6 ∷ 0 ∷ 0 ∷ 0 ∷ 0 ∷ 2 ∷ 0 ∷ 0 ∷ []) 2 (5 ∷ 49 ∷ 49 ∷ [])
     ≡ (record { report = 4; position = 2; depth = 2 }, 0x82 ∷ 0x40 ∷ 0 ∷ 0 ∷ 0 ∷ 0x82 ∷ 0x40 ∷ 0 ∷ 0 ∷ 0 ∷ [])
 unfolding
-    runOf goOn operateOf settled reportOf bytesAfter stored putIn bytesOf numberIn overLimits tooManyLiterals notInTable noRoom noRoomFor
-    isMalformed malformed malformedOperand isTooBig tooBig operationOf takes leaves rowOf quotientOf restackedQuotient fullQuotient tried rounds
+    runOf goOn operateOf settled reportOf bytesAfter stored slot putSlot bytesOf numberIn overLimits tooManyLiterals notInTable noRoom noRoomFor
+    malformed malformedOperand isTooBig tooBig operationOf takes leaves rowOf quotientOf restackedQuotient fullQuotient tried rounds
     normal closed ended restacked fullOfShort formOf leadingZeros
 worked-run = refl

@@ -1,0 +1,4 @@
+pub mod Put
+pub mod PutLaws
+pub mod Digits
+pub mod DigitLaws
