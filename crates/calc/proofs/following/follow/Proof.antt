@@ -1,0 +1,49 @@
+-- `follow` is safe and ends: the measure is the number of turns that are left, and both buffers keep their lengths.
+use mathlib.Core.Path.{_≡_, refl, _∙_}
+use native.Mathlib.Omega.{arith}
+use lib.ListN.{length}
+use Rattle.calc.proofs.following.follow.Statement.{statement}
+use Rattle.calc.proofs.following.follow.Tie as tie
+
+abbrev Inv-loop : tie.InvT-loop
+Inv-loop stack₀ line₀ at₀ turns₀ stack line at turns = (length stack ≡ length stack₀) × (length line ≡ length line₀)
+
+abbrev μ-loop : tie.MeasureT-loop
+μ-loop stack₀ line₀ at₀ turns₀ stack line at turns = turns
+
+loop-again : tie.Need-loop-again Inv-loop μ-loop
+loop-again c =
+    let read = c .before .before .before .before .before .read-some in
+    let l = c .before .before .before .before .before .before .before .before .before .loop in
+    (read .kept .0 ∙ l .inv .0, read .kept .1 .0 ∙ l .inv .1)
+
+same-length : tie.Need-same-length Inv-loop μ-loop
+same-length c = c .before .before .end-line .kept .0 ∙ c .before .before .before .before .before .before .before .before .loop .inv .0
+
+same-length-2 : tie.Need-same-length-2 Inv-loop μ-loop
+same-length-2 c = c .before .before .before .before .before .before .before .before .loop .inv .1
+
+same-length-3 : tie.Need-same-length-3 Inv-loop μ-loop
+same-length-3 c = c .before .before .before .loop .inv .0
+
+same-length-4 : tie.Need-same-length-4 Inv-loop μ-loop
+same-length-4 c = c .before .before .before .loop .inv .1
+
+pub follow-spec : {M : Type 1} → statement M
+follow-spec =
+    tie.close
+    (tie.spec
+    Inv-loop
+    μ-loop
+    (λ c. (refl, refl))
+    (λ c κs. tt)
+    (λ c κs. omega arith)
+    (λ c. omega arith)
+    loop-again
+    (λ c κs. tt)
+    same-length
+    same-length-2
+    (λ c. tt)
+    same-length-3
+    same-length-4
+    (λ c. tt))

@@ -1,0 +1,10 @@
+pub mod Blanks
+pub mod BlankLaws
+pub mod Numbers
+pub mod NumberLaws
+pub mod Names
+pub mod NameLaws
+pub mod Line
+pub mod LineLaws
+pub mod Answer
+pub mod AnswerLaws
