@@ -1,17 +1,17 @@
 -- Addition by sign and magnitude, which is how the code goes: a law for each way through the definitions.
-use Prim.Native.Nat.{ℕ, suc, _+_, _-_, _^_, _/_, _≤_, _<_, max}
+use Prim.Native.Nat.{ℕ, suc, _+_, _*_, _-_, _^_, _/_, _≤_, _<_, max}
 use mathlib.Core.Path.{_≡_, refl, sym, _∙_, ap, ap₂, subst₂}
 use mathlib.Core.Logic.{_⊎_, inl, inr}
 use mathlib.Core.Bool.{Bool, true, false, cond}
-use borrow.Author.Tests.{le-leb, lt-leb, eq-eqb, ne-eqb, eqb-false}
-use native.Mathlib.Nat.{eq-zero-or-pos, max-comm, max-eq-left, two-pow-succ, div-lt-iff-lt-mul}
+use borrow.Author.Tests.{le-leb, lt-leb, eq-eqb, ne-eqb, eqb-true, eqb-false, ltb-true}
+use native.Mathlib.Nat.{eq-zero-or-pos, max-comm, max-eq-left, two-pow-succ, div-lt-iff-lt-mul, div-div-eq-div-mul}
 use native.Mathlib.Omega.{arith}
 use lib.Dec.{ltb, eqb}
 use lib.IntN.{ℤ, pos, natAbs, _+ℤ_, +ℤ-comm}
-use lib.Pow.{pow-pos, pow-mono}
+use lib.Pow.{pow-pos, pow-add}
 use lib.Signed.{shrZ}
 use Rattle.number.specs.declared.Number.{Number}
-use Rattle.number.specs.Number.{sign, mantissa}
+use Rattle.number.specs.Number.{sign, mantissa, fullOf}
 use Rattle.number.specs.Value.{signed}
 use Rattle.number.specs.ValueLaws.{signed-zero}
 use Rattle.number.specs.declared.unpacking.Unpacked.{Unpacked}
@@ -21,43 +21,46 @@ use Rattle.number.specs.Unpack.{magnitudeOf, unpackedOf, unpacked-range}
 use Rattle.addition.specs.declared.sum.Pair.{Pair}
 use Rattle.addition.specs.declared.sum.Whole.{Whole}
 use Rattle.ending.specs.declared.answer.Answer.{Answer}
-use Rattle.ending.specs.declared.answer.Answer.the-variants.{TooBig}
-use Rattle.ending.specs.Ending.{ended}
-use Rattle.ending.specs.EndingLaws.{ended-zero}
+use Rattle.ending.specs.declared.answer.Answer.the-variants.{Done, TooBig}
+use Rattle.ending.specs.Ending.{loose, ended}
+use Rattle.ending.specs.EndingLaws.{ended-zero, ended-set, closed-stored}
 use Rattle.addition.specs.Addition.{signedMantissa, aligned, endedWhole, carried, endedSum, alignedSum, fullRoute}
 use Rattle.addition.specs.SignedLaws.{natAbs-signed, negative-signed, floor-signed}
 
--- the magnitude of a mantissa moved k places, by its sign
+-- the magnitude of a mantissa moved k places, by its sign: twice it is moved k + 1 places, so that no place is a case of its own
 abbrev pub shiftedBy : ℕ → ℕ → ℕ → ℕ
-shiftedBy s m k = cond (eqb k 0) m (cond (ltb 32 k) 0 ((m + 2 ^ (k - 1) - s) / 2 ^ k))
+shiftedBy s m k = cond (ltb 32 k) 0 ((2 * m + 2 ^ k - s) / 2 ^ (k + 1))
 
--- half of a power of two, and how large it is
-pub record Half (k : ℕ) : Type 0 where
-  pub twice : 2 ^ k ≡ 2 ^ (k - 1) + 2 ^ (k - 1)
-  pub least : 1 ≤ 2 ^ (k - 1)
-  pub most : 2 ^ (k - 1) ≤ 2 ^ 31
+pub unshifted : (s m : ℕ) → s < 2 → shiftedBy s m 0 ≡ m
+unshifted s m h = omega arith
 
-pub half : (k : ℕ) → 0 < k → k ≤ 32 → Half k
-half k h g =
+moved-some : (s m k : ℕ) → s < 2 → 0 < k → (2 * m + 2 ^ k - s) / 2 ^ (k + 1) ≡ (m + 2 ^ (k - 1) - s) / 2 ^ k
+moved-some s m k h g =
+    let n = 2 ^ (k - 1) in
     let suc-pred : k ≡ suc (k - 1) = omega arith in
-    record {
-      twice = ap (λ (n : ℕ). 2 ^ n) suc-pred ∙ two-pow-succ (k - 1);
-      least = pow-pos (k - 1);
-      most = pow-mono {i = k - 1} {j = 31} (omega arith);
-    }
+    let twice : 2 ^ k ≡ n + n = ap (λ (i : ℕ). 2 ^ i) suc-pred ∙ two-pow-succ (k - 1) in
+    let some = pow-pos (k - 1) in
+    let halved : (2 * m + 2 ^ k - s) / 2 ≡ m + n - s = omega arith in
+    let next : 2 ^ (k + 1) ≡ 2 * 2 ^ k = pow-add 2 k 1 ∙ omega arith in
+    ap (λ (d : ℕ). (2 * m + 2 ^ k - s) / d) next
+    ∙ sym (div-div-eq-div-mul (2 * m + 2 ^ k - s) 2 (2 ^ k))
+    ∙ ap (λ (i : ℕ). i / 2 ^ k) halved
 
-pub shifted-lt : (s m k : ℕ) → m < 2 ^ 32 → 0 < k → k ≤ 32 → (m + 2 ^ (k - 1) - s) / 2 ^ k < 2 ^ 32
-shifted-lt s m k h g l = let p = half k g l in div-lt-iff-lt-mul (pow-pos k) .1 (omega (arith, p .twice, p .least))
+pub shifted-lt : (s m k : ℕ) → m < 2 ^ 32 → (2 * m + 2 ^ k - s) / 2 ^ (k + 1) < 2 ^ 32
+shifted-lt s m k h = let p = pow-pos k in div-lt-iff-lt-mul (pow-pos (k + 1)) .1 (omega (arith, pow-add 2 k 1))
 
 pub aligned-signed : (s m k : ℕ) → s < 2 → aligned k (signed s m) ≡ signed s (shiftedBy s m k)
 unfolding aligned
-aligned-signed s m k h = go (eqb k 0) (ltb 32 k) refl
+aligned-signed s m k h = go (eqb k 0) (ltb 32 k) refl refl
   where
-    go : (a b : Bool) → eqb k 0 ≡ a
-        → cond a (signed s m) (cond b (pos 0) (shrZ (signed s m +ℤ pos (2 ^ (k - 1))) (2 ^ k))) ≡ signed s (cond a m (cond b 0 ((m + 2 ^ (k - 1) - s) / 2 ^ k)))
-    go true b e = refl
-    go false true e = sym (signed-zero s)
-    go false false e = floor-signed s m k h (omega (arith, eqb-false k 0 e))
+    go : (a b : Bool) → eqb k 0 ≡ a → ltb 32 k ≡ b
+        → cond a (signed s m) (cond b (pos 0) (shrZ (signed s m +ℤ pos (2 ^ (k - 1))) (2 ^ k))) ≡ signed s (cond b 0 ((2 * m + 2 ^ k - s) / 2 ^ (k + 1)))
+    go true true e f = absurd (omega (arith, eqb-true k 0 e, ltb-true 32 k f))
+    go true false e f = ap (signed s) (sym (ap (λ (i : ℕ). (2 * m + 2 ^ i - s) / 2 ^ (i + 1)) (eqb-true k 0 e) ∙ unshifted s m h))
+    go false true e f = sym (signed-zero s)
+    go false false e f =
+        let some : 0 < k = omega (arith, eqb-false k 0 e) in
+        floor-signed s m k h some ∙ ap (signed s) (sym (moved-some s m k h some))
 
 unmoved : (z : ℤ) → aligned 0 z ≡ z
 unfolding aligned
@@ -102,6 +105,15 @@ module _ (s m e : ℕ) (h : s < 2) where
       beyond (signed s m) e (rw natAbs-signed g)
       ∙ simp (ne-eqb (e + 1) 256 (omega arith)) (ap (λ (z : ℤ). endedWhole z (e + 1)) (floor-signed s m 1 h (omega arith)))
       ∙ ended-signed s ((m + 1 - s) / 2) (e + 1) h
+
+  -- half of it has its top bit set
+  pub sum-stored : 2 ^ 32 ≤ m → m + 1 < 2 ^ 33 → e < 255 → endedSum (signed s m) e ≡ Done (fullOf s (e + 1) ((m + 1 - s) / 2))
+  sum-stored g l k =
+      let t = (m + 1 - s) / 2 in
+      sum-carried g (omega arith)
+      ∙ ended-set s t (e + 1 + 256) 0 (omega arith)
+      ∙ closed-stored s (loose t (e + 1 + 256) 0) (omega arith) (omega arith)
+      ∙ ap₂ (λ (a b : ℕ). Done (fullOf s a b)) (omega arith) (omega arith)
 
 -- A sum by sign and magnitude.
 pub record Adds (s m o n : ℕ) (w : Whole) : Type 0 where

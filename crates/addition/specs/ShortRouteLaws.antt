@@ -116,40 +116,26 @@ module _ (x y : Number) where
 
 -- ---- how a sum goes
 
--- 0: stored short; 1: stored short and negative; else the full route
-pub record Route (x y : Number) (route : ℕ) : Type 0 where
-  pub positive : route ≡ 0 → sumOf x y ≡ Done (halves 0 (wrapped x y))
-  pub negative : route ≡ 1 → sumOf x y ≡ Done (halves 255 (wrapped x y))
-  pub full : (route ≡ 0 → ⊥) → (route ≡ 1 → ⊥) → sumOf x y ≡ fullRoute x y
-
 module _ (x y : Number) where
-  pub route-full : sumOf x y ≡ fullRoute x y → Route x y 2
-  route-full h = record { positive = λ e. absurd (omega arith); negative = λ e. absurd (omega arith); full = λ a b. h }
-
   pub first-full : (x .b1 ≡ 0 → ⊥) → sumOf x y ≡ fullRoute x y
   unfolding sumOf
   first-full h = simp (ne-eqb (x .b1) 0 h)
 
-  pub second-full : (y .b1 ≡ 0 → ⊥) → sumOf x y ≡ fullRoute x y
-  unfolding sumOf
-  second-full h = go (eqb (x .b1) 0)
-    where
-      go : (t : Bool) → cond t (cond (eqb (y .b1) 0) (shortRoute x y) (fullRoute x y)) (fullRoute x y) ≡ fullRoute x y
-      go true = simp (ne-eqb (y .b1) 0 h)
-      go false = refl
-
-  module _ (f : x .b1 ≡ 0) (g : y .b1 ≡ 0) where
-    pub short : sumOf x y ≡ shortRoute x y
+  module _ (f : x .b1 ≡ 0) where
+    pub second-full : (y .b1 ≡ 0 → ⊥) → sumOf x y ≡ fullRoute x y
     unfolding sumOf
-    short = simp (eq-eqb (x .b1) 0 f, eq-eqb (y .b1) 0 g)
+    second-full h = simp (eq-eqb (x .b1) 0 f, ne-eqb (y .b1) 0 h)
 
-    pub route-positive : carryOf (wrapped x y) (low x) ≡ negatives x y → Route x y 0
-    route-positive h =
-        record { positive = λ e. short ∙ short-positive x y h; negative = λ e. absurd (omega arith); full = λ a b. absurd (a refl) }
+    module _ (g : y .b1 ≡ 0) where
+      pub short : sumOf x y ≡ shortRoute x y
+      unfolding sumOf
+      short = simp (eq-eqb (x .b1) 0 f, eq-eqb (y .b1) 0 g)
 
-    pub route-negative : carryOf (wrapped x y) (low x) + 1 ≡ negatives x y → Route x y 1
-    route-negative h =
-        record { positive = λ e. absurd (omega arith); negative = λ e. short ∙ short-negative x y h; full = λ a b. absurd (b refl) }
+      pub sum-positive : carryOf (wrapped x y) (low x) ≡ negatives x y → sumOf x y ≡ Done (halves 0 (wrapped x y))
+      sum-positive h = short ∙ short-positive x y h
 
-    pub route-beyond : (carryOf (wrapped x y) (low x) ≡ negatives x y → ⊥) → (carryOf (wrapped x y) (low x) + 1 ≡ negatives x y → ⊥) → Route x y 2
-    route-beyond h k = route-full (short ∙ short-beyond x y h k)
+      pub sum-negative : carryOf (wrapped x y) (low x) + 1 ≡ negatives x y → sumOf x y ≡ Done (halves 255 (wrapped x y))
+      sum-negative h = short ∙ short-negative x y h
+
+      pub sum-beyond : (carryOf (wrapped x y) (low x) ≡ negatives x y → ⊥) → (carryOf (wrapped x y) (low x) + 1 ≡ negatives x y → ⊥) → sumOf x y ≡ fullRoute x y
+      sum-beyond h k = short ∙ short-beyond x y h k

@@ -4,23 +4,21 @@ use ending::Answer;
 use number::Number;
 ghost use mathlib.Core.Path.{_≡_};
 ghost use Prim.Native.Nat.{_+_, _^_, _≤_, _<_};
+ghost use Rattle.number.specs.Number.{number};
 ghost use Rattle.number.specs.Value.{signed};
 ghost use Rattle.addition.specs.Addition.{endedSum, fullRoute, sumOf};
 ghost use Rattle.addition.specs.AdditionLaws.{shiftedBy, Ordered, Adds};
-ghost use Rattle.addition.specs.ShortRouteLaws.{carryOf, wrapped, Route};
+ghost use Rattle.addition.specs.ShortRouteLaws.{carryOf};
 
 // A mantissa moved down by some places. Halves go towards plus infinity, so the sign counts.
 fn shifted(sign: u8, m: u64, places: u8) -> u64
     requires { ⌜ (sign < 2) × (m < 2 ^ 32) ⌝ }
     ensures { λ r. ⌜ (r ≡ shiftedBy sign m places) × (r < 2 ^ 32) ⌝ }
 {
-    if places == 0 {
-        return m;
-    }
     if 32 < places {
         return 0;
     }
-    (m + (1u64 << (places - 1)) - sign as u64) >> places
+    (2 * m + (1u64 << places) - sign as u64) >> (places + 1)
 }
 
 struct Whole {
@@ -55,7 +53,10 @@ fn carry_and_end(sign: u8, t: u64, e: u8) -> Answer
     if e == 255 {
         return Answer::TooBig;
     }
-    ending::close(sign, ((t + 1 - sign as u64) / 2) as u32, e as u64 + 257, 0)
+    Answer::Done(Number {
+        b1: e + 1,
+        word: number::full_word(sign, (t + 1 - sign as u64) / 2),
+    })
 }
 
 // Two signed mantissas, the one with the larger exponent byte first.
@@ -68,11 +69,11 @@ struct Pair {
     f: u8,
 }
 
-fn in_order(x: Number, y: Number) -> Pair
-    ensures { λ r. ⌜ Ordered x y r ⌝ }
+fn in_order(x1: u8, xw: u32, y1: u8, yw: u32) -> Pair
+    ensures { λ r. ⌜ Ordered (number x1 xw) (number y1 yw) r ⌝ }
 {
-    let a = number::unpack(x);
-    let b = number::unpack(y);
+    let a = number::unpack(Number { b1: x1, word: xw });
+    let b = number::unpack(Number { b1: y1, word: yw });
     if a.e < b.e {
         return Pair {
             sign: b.sign,
@@ -93,10 +94,10 @@ fn in_order(x: Number, y: Number) -> Pair
     }
 }
 
-fn add_full(x: Number, y: Number) -> Answer
-    ensures { λ r. ⌜ r ≡ fullRoute x y ⌝ }
+fn add_full(x1: u8, xw: u32, y1: u8, yw: u32) -> Answer
+    ensures { λ r. ⌜ r ≡ fullRoute (number x1 xw) (number y1 yw) ⌝ }
 {
-    let p = in_order(x, y);
+    let p = in_order(x1, xw, y1, yw);
     let moved = shifted(p.other, p.n, p.e - p.f);
     let sum = added(p.sign, p.m, p.other, moved);
     carry_and_end(sum.sign, sum.t, p.e)
@@ -112,37 +113,33 @@ fn carry_of(sum: u16, first: u16) -> u32
     0
 }
 
-// How a sum goes: 0 is stored short, 1 is stored short and negative, 2 takes the full route. The sign bytes settle the seventeenth bit: a sum of
-// two short numbers is stored short where they and the carry make it 0 or -1.
-fn route_of(x: Number, y: Number, sum: u16) -> u8
-    requires { ⌜ sum ≡ wrapped x y ⌝ }
-    ensures { λ r. ⌜ Route x y r ⌝ }
-{
-    if x.b1 != 0 {
-        return 2;
-    }
-    if y.b1 != 0 {
-        return 2;
-    }
-    let carry = carry_of(sum, number::low_half(x));
-    let negatives = x.word / 2147483648 + y.word / 2147483648;
-    if carry == negatives {
-        return 0;
-    }
-    if carry + 1 == negatives {
-        return 1;
-    }
-    2
-}
-
+// The sign bytes settle the seventeenth bit: a sum of two short numbers is stored short where they and the carry make it 0 or -1.
 pub fn addition(x: Number, y: Number) -> Answer
     ensures { λ r. ⌜ r ≡ sumOf x y ⌝ }
 {
-    let sum = std::num::wrapping_add_u16(number::low_half(x), number::low_half(y));
-    let route = route_of(x, y, sum);
-    match route {
-        0 => Answer::Done(number::short_halves(0, sum)),
-        1 => Answer::Done(number::short_halves(255, sum)),
-        _ => add_full(x, y),
+    let x1 = x.b1;
+    let xw = x.word;
+    let y1 = y.b1;
+    let yw = y.word;
+    if x1 == 0 {
+        if y1 == 0 {
+            let first = number::low_half(xw);
+            let sum = std::num::wrapping_add_u16(first, number::low_half(yw));
+            let carry = carry_of(sum, first);
+            let negatives = xw / 2147483648 + yw / 2147483648;
+            if carry == negatives {
+                return Answer::Done(Number {
+                    b1: 0,
+                    word: number::halves_word(0, sum),
+                });
+            }
+            if carry + 1 == negatives {
+                return Answer::Done(Number {
+                    b1: 0,
+                    word: number::halves_word(255, sum),
+                });
+            }
+        }
     }
+    add_full(x1, xw, y1, yw)
 }

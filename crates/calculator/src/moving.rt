@@ -20,7 +20,7 @@ pub(crate) fn exchange(stack: &mut [u8], depth: &mut usize, taken: usize, left: 
     let top = places::five_in(stack, old - 1);
     places::put_five(stack, old - 2, top);
     places::put_five(stack, old - 1, lower);
-    *depth = old - taken + left;
+    *depth = *depth - taken + left;
     0
 }
 

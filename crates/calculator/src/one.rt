@@ -2,19 +2,20 @@
 use crate::places;
 use number::Number;
 ghost use mathlib.Core.Path.{_≡_};
+ghost use Rattle.number.specs.Number.{number};
 ghost use Rattle.ending.specs.declared.answer.Answer.the-variants.{Done};
 ghost use Rattle.slots.specs.LimitLaws.{Within};
 ghost use Rattle.calculator.specs.Literals.{one as ofOneNumber};
 ghost use Rattle.calculator.specs.Dispatch.{ofOne, RowRead, Stepped};
 
-fn of_one(literal: u8, x: Number) -> Number
-    ensures { λ r. ⌜ ofOne literal x ≡ Done r ⌝ }
+fn of_one(literal: u8, b1: u8, word: u32) -> Number
+    ensures { λ r. ⌜ ofOne literal (number b1 word) ≡ Done r ⌝ }
 {
     match literal {
-        27 => number::negate(x),
-        39 => truncation::int(x),
-        58 => truncation::truncate(x),
-        _ => number::re_stack(x),
+        27 => number::negate(Number { b1, word }),
+        39 => truncation::int(Number { b1, word }),
+        58 => truncation::truncate(Number { b1, word }),
+        _ => number::re_stack(Number { b1, word }),
     }
 }
 
@@ -27,11 +28,12 @@ pub(crate) fn one(stack: &mut [u8], depth: &mut usize, literal: u8, taken: usize
     if old < taken {
         return 2;
     }
-    let x = places::number_in(stack, old - 1);
-    if number::is_malformed(x) {
+    if places::is_malformed_in(stack, old - 1) {
         return 3;
     }
-    places::put_in(stack, old - 1, of_one(literal, x));
-    *depth = old - taken + left;
+    let b1 = places::b1_in(stack, old - 1);
+    let word = places::word_in(stack, old - 1);
+    places::put_in(stack, old - 1, of_one(literal, b1, word));
+    *depth = *depth - taken + left;
     0
 }

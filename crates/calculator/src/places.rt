@@ -3,9 +3,9 @@ use number::Number;
 ghost use mathlib.Core.Path.{_≡_};
 ghost use Prim.Native.Nat.{_+_, _*_, _≤_};
 ghost use lib.ListN.{length};
+ghost use Rattle.number.specs.Number.{swappedOf, malformed};
 ghost use Rattle.slots.specs.Slots.{slot as slotOf, numberIn, putSlot, putIn};
 
-// The exponent byte alone. Asked first, it lets the compiler read the word of a full number at once, where a form test would split it.
 pub(crate) fn b1_in(stack: &[u8], slot: usize) -> u8
     requires { ⌜ 5 * slot + 5 ≤ length (now stack) ⌝ }
     ensures { λ r. ⌜ r ≡ numberIn (now (stack .entry)) slot .b1 ⌝ }
@@ -13,15 +13,41 @@ pub(crate) fn b1_in(stack: &[u8], slot: usize) -> u8
     stack[5 * slot]
 }
 
-pub(crate) fn number_in(stack: &[u8], slot: usize) -> Number
+// b2 to b5 the other way round, as the machine holds a word: the compiler reads them at once.
+fn four_in(stack: &[u8], slot: usize) -> u32
     requires { ⌜ 5 * slot + 5 ≤ length (now stack) ⌝ }
-    ensures { λ r. ⌜ r ≡ numberIn (now (stack .entry)) slot ⌝ }
+    ensures { λ r. ⌜ swappedOf r ≡ numberIn (now (stack .entry)) slot .word ⌝ }
 {
     let at = 5 * slot;
-    Number {
-        b1: stack[at],
-        word: number::joined(stack[at + 1], stack[at + 2], stack[at + 3], stack[at + 4]),
+    number::joined(stack[at + 4], stack[at + 3], stack[at + 2], stack[at + 1])
+}
+
+fn swapped(w: u32) -> u32
+    ensures { λ r. ⌜ r ≡ swappedOf w ⌝ }
+{
+    w % 256 * 16777216 + w / 256 % 256 * 65536 + w / 65536 % 256 * 256 + w / 16777216
+}
+
+pub(crate) fn word_in(stack: &[u8], slot: usize) -> u32
+    requires { ⌜ 5 * slot + 5 ≤ length (now stack) ⌝ }
+    ensures { λ r. ⌜ r ≡ numberIn (now (stack .entry)) slot .word ⌝ }
+{
+    swapped(four_in(stack, slot))
+}
+
+// The word is looked at only where b1 is 0: a full number has no form to test.
+pub(crate) fn is_malformed_in(stack: &[u8], slot: usize) -> bool
+    requires { ⌜ 5 * slot + 5 ≤ length (now stack) ⌝ }
+    ensures { λ r. ⌜ r ≡ malformed (numberIn (now (stack .entry)) slot) ⌝ }
+{
+    let b1 = b1_in(stack, slot);
+    if b1 != 0 {
+        return false;
     }
+    number::is_malformed(Number {
+        b1,
+        word: word_in(stack, slot),
+    })
 }
 
 // The first byte comes last, so that the compiler stores the other four at once.

@@ -18,47 +18,39 @@ struct Operands {
     second: Number,
 }
 
-// Two full numbers need no test of their forms.
+fn refused(report: u8) -> Operands
+    ensures { λ r. ⌜ r .report ≡ report ⌝ }
+{
+    Operands {
+        report,
+        first: Number { b1: 0, word: 0 },
+        second: Number { b1: 0, word: 0 },
+    }
+}
+
 fn read_two(stack: &[u8], depth: usize, taken: usize) -> Operands
     requires { ⌜ Within (now stack) depth × (taken ≡ 2) ⌝ }
     ensures { λ r. ⌜ TwoRead (now (stack .entry)) depth r ⌝ }
 {
     if depth < taken {
-        return Operands {
-            report: 2,
-            first: number::zero(),
-            second: number::zero(),
-        };
+        return refused(2);
     }
-    if places::b1_in(stack, depth - 2) != 0 {
-        if places::b1_in(stack, depth - 1) != 0 {
-            return Operands {
-                report: 0,
-                first: places::number_in(stack, depth - 2),
-                second: places::number_in(stack, depth - 1),
-            };
-        }
+    if places::is_malformed_in(stack, depth - 2) {
+        return refused(3);
     }
-    let first = places::number_in(stack, depth - 2);
-    let second = places::number_in(stack, depth - 1);
-    if number::is_malformed(first) {
-        return Operands {
-            report: 3,
-            first,
-            second,
-        };
-    }
-    if number::is_malformed(second) {
-        return Operands {
-            report: 3,
-            first,
-            second,
-        };
+    if places::is_malformed_in(stack, depth - 1) {
+        return refused(3);
     }
     Operands {
         report: 0,
-        first,
-        second,
+        first: Number {
+            b1: places::b1_in(stack, depth - 2),
+            word: places::word_in(stack, depth - 2),
+        },
+        second: Number {
+            b1: places::b1_in(stack, depth - 1),
+            word: places::word_in(stack, depth - 1),
+        },
     }
 }
 
@@ -66,11 +58,10 @@ fn store(stack: &mut [u8], depth: &mut usize, answer: Answer, taken: usize, left
     requires { ⌜ Within (now stack) (now depth) × (2 ≤ now depth) × (taken ≡ 2) × (left ≡ 1) ⌝ }
     ensures { λ r. ⌜ storedOf (now (stack .entry)) (now (depth .entry)) answer ≡ (r, now (depth .exit), now (stack .exit)) ⌝ }
 {
-    let old = *depth;
     match answer {
         Answer::Done(n) => {
-            places::put_in(stack, old - 2, n);
-            *depth = old - taken + left;
+            places::put_in(stack, *depth - 2, n);
+            *depth = *depth - taken + left;
             0
         }
         Answer::TooBig => 6,
@@ -81,15 +72,26 @@ fn store(stack: &mut [u8], depth: &mut usize, answer: Answer, taken: usize, left
 fn added(literal: u8, second: Number) -> Number
     ensures { λ r. ⌜ r ≡ cond (eqb literal 3) (negated second) second ⌝ }
 {
+    let b1 = second.b1;
+    let word = second.word;
     if literal == 3 {
-        return number::negate(second);
+        return number::negate(Number { b1, word });
     }
-    second
+    Number { b1, word }
 }
 
-fn of_two(literal: u8, first: Number, second: Number) -> Answer
-    ensures { λ r. ⌜ r ≡ ofTwo literal first second ⌝ }
+// A number that is written out field by field stays in registers; one that is handed on as it came goes through memory.
+fn of_two(literal: u8, x: Number, y: Number) -> Answer
+    ensures { λ r. ⌜ r ≡ ofTwo literal x y ⌝ }
 {
+    let first = Number {
+        b1: x.b1,
+        word: x.word,
+    };
+    let second = Number {
+        b1: y.b1,
+        word: y.word,
+    };
     if literal == 5 {
         return division::division(first, second);
     }

@@ -1,5 +1,6 @@
 // The exponent's ways out, the rounding and the store, once the top bit is set.
 use crate::answer::Answer;
+use number::Number;
 ghost use mathlib.Core.Path.{_≡_};
 ghost use Rattle.ending.specs.Ending.{loose, closed};
 
@@ -10,10 +11,16 @@ pub fn close(sign: u8, t: u32, e: u64, digits: u64) -> Answer
         return Answer::TooBig;
     }
     if e < 256 {
-        return Answer::Done(number::zero());
+        return Answer::Done(Number { b1: 0, word: 0 });
     }
     if e == 256 {
-        return Answer::Done(number::full(sign, 1, 2147483648));
+        return Answer::Done(Number {
+            b1: 1,
+            word: number::full_word(sign, 2147483648),
+        });
     }
-    Answer::Done(number::full(sign, (e - 256) as u8, t as u64 + digits % 2))
+    Answer::Done(Number {
+        b1: (e - 256) as u8,
+        word: number::full_word(sign, t as u64 + digits % 2),
+    })
 }

@@ -1,6 +1,7 @@
 // The doublings, one place at a time. A magnitude whose top bit is set, the common case, has none.
 use crate::answer::Answer;
 use crate::closing::close;
+use number::Number;
 ghost use mathlib.Core.Path.{_≡_};
 ghost use Prim.Native.Nat.{_^_, _≤_, _<_};
 ghost use Rattle.ending.specs.Ending.{loose, normal, ended};
@@ -31,10 +32,10 @@ pub fn ending(sign: u8, t: u32, e: u64, digits: u64) -> Answer
         return close(sign, t, e, digits);
     }
     if t == 0 {
-        return Answer::Done(number::zero());
+        return Answer::Done(Number { b1: 0, word: 0 });
     }
     if e < 256 {
-        return Answer::Done(number::zero());
+        return Answer::Done(Number { b1: 0, word: 0 });
     }
     let mut t = t as u64;
     let mut e = e;

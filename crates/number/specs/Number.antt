@@ -22,8 +22,15 @@ b5 x = x .word % 256
 abbrev pub wordOf : ℕ → ℕ → ℕ → ℕ → ℕ
 wordOf b c d e = b * 2 ^ 24 + c * 2 ^ 16 + d * 2 ^ 8 + e
 
+-- a word's bytes in the other order
+abbrev pub swappedOf : ℕ → ℕ
+swappedOf w = wordOf (w % 256) (w / 2 ^ 8 % 256) (w / 2 ^ 16 % 256) (w / 2 ^ 24)
+
+abbrev pub number : ℕ → ℕ → Number
+number b w = record { b1 = b; word = w }
+
 abbrev pub bytes : ℕ → ℕ → ℕ → ℕ → ℕ → Number
-bytes a b c d e = record { b1 = a; word = wordOf b c d e }
+bytes a b c d e = number a (wordOf b c d e)
 
 abbrev pub zeros : Number
 zeros = bytes 0 0 0 0 0
@@ -53,7 +60,7 @@ mantissa x = x .word % 2 ^ 31 + 2 ^ 31
 
 -- The full number with sign s, 0 or 1, exponent byte e and mantissa m.
 abbrev pub fullOf : ℕ → ℕ → ℕ → Number
-fullOf s e m = record { b1 = e; word = m % 2 ^ 31 + 2 ^ 31 * (s % 2) }
+fullOf s e m = number e (m % 2 ^ 31 + 2 ^ 31 * (s % 2))
 
 -- A short number's low half: "b3 low and b4 high".
 abbrev pub low : Number → ℕ
@@ -73,7 +80,7 @@ halves b h = bytes 0 b (h % 256) (h / 256) 0
 
 -- The short number with sign s that is v away from zero. (With sign 1, 65,536 makes odd.)
 abbrev pub shortOf : ℕ → ℕ → Number
-shortOf s v = cond (eqb s 0) (halves 0 v) (halves 255 (complementOf v))
+shortOf s v = number 0 (cond (eqb s 0) (halves 0 v .word) (halves 255 (complementOf v) .word))
 
 -- "Zero test (004): the first four bytes are zero."
 unfoldable pub passesZeroTest : Number → Bool

@@ -8,7 +8,7 @@ use native.Mathlib.Omega.{arith}
 use borrow.Author.Tests.{eqb-true, eqb-false, eq-eqb, ne-eqb}
 use lib.Dec.{eqb}
 use Rattle.number.specs.declared.Number.{Number}
-use Rattle.number.specs.Number.{b2, b3, b4, sign, mantissa, fullOf, low, complementOf, shortMagnitude, halves, shortOf, passesZeroTest}
+use Rattle.number.specs.Number.{b2, b3, b4, wordOf, swappedOf, sign, mantissa, fullOf, low, complementOf, shortMagnitude, halves, shortOf, passesZeroTest}
 
 pub record Bytes (x : Number) : Type 0 where
   pub b1< : x .b1 < 256
@@ -20,16 +20,21 @@ mantissa-full s e m h g = omega arith
 pub sign-full : (s e m : ℕ) → s < 2 → sign (fullOf s e m) ≡ s
 sign-full s e m h = omega arith
 
-pub short-b1 : (s v : ℕ) → shortOf s v .b1 ≡ 0
-short-b1 s v = go (eqb s 0)
-  where
-    go : (z : Bool) → cond z (halves 0 v) (halves 255 (complementOf v)) .b1 ≡ 0
-    go true = refl
-    go false = refl
-
 -- the next byte up
 pub places : (w : ℕ) → (w / 2 ^ 16 ≡ w / 2 ^ 8 / 2 ^ 8) × (w / 2 ^ 24 ≡ w / 2 ^ 16 / 2 ^ 8)
 places w = (sym (div-div-eq-div-mul w (2 ^ 8) (2 ^ 8)), sym (div-div-eq-div-mul w (2 ^ 16) (2 ^ 8)))
+
+-- four bytes in the other order, swapped
+pub swapped-word : (b c d e : ℕ) → b < 256 → c < 256 → d < 256 → e < 256 → swappedOf (wordOf e d c b) ≡ wordOf b c d e
+swapped-word b c d e p q r s =
+    let w = wordOf e d c b in
+    let zero : w % 256 ≡ b = omega arith in
+    let one : w / 2 ^ 8 ≡ e * 2 ^ 16 + d * 2 ^ 8 + c = omega arith in
+    let two : w / 2 ^ 16 ≡ e * 2 ^ 8 + d = places w .0 ∙ ap (λ (k : ℕ). k / 2 ^ 8) one ∙ omega arith in
+    let three : w / 2 ^ 24 ≡ e = places w .1 ∙ ap (λ (k : ℕ). k / 2 ^ 8) two ∙ omega arith in
+    let first : w / 2 ^ 8 % 256 ≡ c = ap (λ (k : ℕ). k % 256) one ∙ omega arith in
+    let second : w / 2 ^ 16 % 256 ≡ d = ap (λ (k : ℕ). k % 256) two ∙ omega arith in
+    ap₂ (λ (i j : ℕ). wordOf i j (w / 2 ^ 16 % 256) (w / 2 ^ 24)) zero first ∙ ap₂ (wordOf b c) second three
 
 -- what is written as a low half is read as one
 pub low-halves : (b h : ℕ) → h < 2 ^ 16 → low (halves b h) ≡ h

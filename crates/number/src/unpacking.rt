@@ -1,8 +1,6 @@
 // A number's sign, mantissa and exponent byte once it is re-stacked, without its full form being written out.
 use super::Number;
-use super::parts::mantissa;
 use super::parts::short_magnitude;
-use super::parts::sign_of;
 ghost use mathlib.Core.Path.{_≡_};
 ghost use Rattle.number.specs.Unpack.{unpackedOf};
 
@@ -16,14 +14,17 @@ pub struct Unpacked {
 pub fn unpack(x: Number) -> Unpacked
     ensures { λ r. ⌜ r ≡ unpackedOf x ⌝ }
 {
-    if x.b1 != 0 {
+    let b1 = x.b1;
+    let word = x.word;
+    let sign = (word / 2147483648) as u8;
+    if b1 != 0 {
         return Unpacked {
-            sign: sign_of(x),
-            m: mantissa(x),
-            e: x.b1,
+            sign,
+            m: (word % 2147483648 + 2147483648) as u64,
+            e: b1,
         };
     }
-    let v = short_magnitude(x);
+    let v = short_magnitude(word);
     if v == 0 {
         return Unpacked {
             sign: 0,
@@ -33,7 +34,7 @@ pub fn unpack(x: Number) -> Unpacked
     }
     let places = u32::leading_zeros(v as u32);
     Unpacked {
-        sign: sign_of(x),
+        sign,
         m: (v as u64) << places,
         e: (160 - places) as u8,
     }

@@ -3,12 +3,13 @@ use Prim.Native.Nat.{ℕ, _+_, _*_, _-_, _^_, _/_, _%_, _≤_, _<_}
 use mathlib.Core.Path.{_≡_, refl, sym, _∙_, ap, ap₂}
 use mathlib.Core.Logic.{_⊎_, inl, inr}
 use mathlib.Core.Bool.{Bool, true, false, cond}
-use borrow.Author.Tests.{ne-eqb, eq-eqb, eqb-false, ltb-false}
+use borrow.Author.Tests.{ne-eqb, eq-eqb}
 use native.Mathlib.Nat.{div-eq-of-lt, le-trans, le-of-eq}
 use native.Mathlib.Omega.{arith}
 use lib.Count.{leadingZeros}
-use lib.Dec.{ltb, eqb}
+use lib.Dec.{ltb}
 use lib.IntN.{ℤ, _+ℤ_}
+use lib.Pow.{pow-add, pow-pos}
 use Rattle.number.specs.declared.Number.{Number}
 use Rattle.number.specs.Number.{formOf, zeros, bytes, sign, mantissa, fullOf, low, complementOf, halves, shortOf, shortMagnitude, passesZeroTest}
 use Rattle.number.specs.NumberLaws.{Bytes, mantissa-full, sign-full, low-halves, zero-passes, full-fails}
@@ -23,7 +24,7 @@ use Rattle.ending.specs.Ending.{loose, normal, rounded, closed, ended}
 use Rattle.ending.specs.EndingLaws.{normal-exponent, closed-stored, ended-zero, ended-other, ended-set}
 use Rattle.addition.specs.Addition.{aligned, endedSum, alignedSum, fullRoute, shortRoute, sumOf, differenceOf}
 use Rattle.addition.specs.SignedLaws.{first-larger}
-use Rattle.addition.specs.AdditionLaws.{shiftedBy, half, aligned-first, sum-ended}
+use Rattle.addition.specs.AdditionLaws.{shiftedBy, unshifted, aligned-first, sum-ended}
 use Rattle.addition.specs.ShortRouteLaws.{first-full}
 use Rattle.truncation.specs.Truncate.{taken65536, cleared, truncated}
 use Rattle.truncation.specs.TruncateLaws.{truncate-full, truncate-below-one, truncate-to-short, truncate-taken, truncate-cleared, truncate-whole, taken-145, taken-not-145}
@@ -35,14 +36,13 @@ use Rattle.truncation.specs.IntLaws.{int-whole, int-part, minusOne, less
 abbrev opposite : Number → Number
 opposite t = restacked (negated t)
 
--- nothing moved is nothing: half of 2^k is less than 2^k
+-- nothing moved is nothing
 none-moved : (k : ℕ) → shiftedBy 0 0 k ≡ 0
-none-moved k = go (eqb k 0) (ltb 32 k) refl refl
+none-moved k = go (ltb 32 k)
   where
-    go : (a b : Bool) → eqb k 0 ≡ a → ltb 32 k ≡ b → cond a 0 (cond b 0 ((0 + 2 ^ (k - 1) - 0) / 2 ^ k)) ≡ 0
-    go true b e f = refl
-    go false true e f = refl
-    go false false e f = let h = half k (omega (arith, eqb-false k 0 e)) (ltb-false _ _ f) in div-eq-of-lt (omega arith)
+    go : (b : Bool) → cond b 0 ((2 * 0 + 2 ^ k - 0) / 2 ^ (k + 1)) ≡ 0
+    go true = refl
+    go false = div-eq-of-lt (omega (arith, pow-pos k, pow-add 2 k 1))
 
 negative : (c : ℕ) → c < 2 ^ 16 → (sign (halves 255 c) ≡ 1) × (256 ≤ halves 255 c .word)
 negative c p = omega arith
@@ -103,7 +103,9 @@ module _ (x : Number) (b : Bytes x) (s : sign x ≡ 1) (f : 0 < x .b1) where
   left-same : (t z : Number) → opposite t ≡ z → z .b1 ≡ x .b1 → sign z ≡ 0 → mantissa z ≤ mantissa x
       → differenceOf x t ≡ ended 1 (mantissa x - mantissa z) (x .b1 + 256) 0
   left-same t z o e g l =
-      left t z (mantissa z) o (omega arith) g (simp (eq-eqb (x .b1 - z .b1) 0 (omega arith), ne-eqb (z .b1) 0 (omega arith))) l
+      let same : x .b1 - z .b1 ≡ 0 = omega arith in
+      left t z (mantissa z) o (omega arith) g
+      (ap (shiftedBy 0 (magnitudeOf z)) same ∙ unshifted 0 (magnitudeOf z) (omega arith) ∙ simp (ne-eqb (z .b1) 0 (omega arith))) l
 
   pub int-large : 160 ≤ x .b1 → intOf x ≡ Done x
   int-large h =

@@ -15,7 +15,7 @@ use Rattle.number.specs.NegateLaws.{negate-short}
 use Rattle.ending.specs.Ending.{normal, closed, ended}
 use Rattle.ending.specs.declared.answer.Answer.the-variants.{Done}
 use Rattle.addition.specs.Addition.{aligned, endedSum, alignedSum, fullRoute, sumOf, differenceOf}
-use Rattle.addition.specs.ShortRouteLaws.{carryOf, negatives, wrapped, carries, route-positive, route-negative, route-beyond}
+use Rattle.addition.specs.ShortRouteLaws.{carryOf, negatives, wrapped, carries, sum-positive, sum-negative, sum-beyond}
 use Rattle.truncation.specs.Truncate.{truncated}
 use Rattle.truncation.specs.TruncateLaws.{truncate-not-full}
 use Rattle.truncation.specs.Int.{shortOne, stepDown, intOf}
@@ -62,7 +62,7 @@ module _ (t : Number) (h : t .b1 ≡ 0) (s : sign t ≡ 1) where
   less-one p =
       let carry : carryOf (wrapped t other) (low t) ≡ 1 = carries (low t) 65535 (omega arith) (omega arith) (omega arith) in
       ap (sumOf t) one-negated
-      ∙ route-negative t other h refl (ap (λ (n : ℕ). n + 1) carry ∙ sym two-negative) .negative refl
+      ∙ sum-negative t other h refl (ap (λ (n : ℕ). n + 1) carry ∙ sym two-negative)
       ∙ ap (λ (n : ℕ). Done (halves 255 n)) (one-lower (low t) p (omega arith))
 
   -- the sum would be -65,537, and on the full route odd counts as zero
@@ -72,9 +72,9 @@ module _ (t : Number) (h : t .b1 ≡ 0) (s : sign t ≡ 1) where
       let none : shortMagnitude t ≡ 0 = simp (ne-eqb (sign t) 0 (omega arith)) (ap complementOf z) in
       let carry : carryOf (wrapped t other) (low t) ≡ 0 = ap (λ (l : ℕ). carryOf ((l + 65535) % 2 ^ 16) l) z in
       ap (sumOf t) one-negated
-      ∙ route-beyond t other h refl
+      ∙ sum-beyond t other h refl
       (λ e. none-two (sym carry ∙ e ∙ two-negative))
-      (λ e. one-two (ap (λ (n : ℕ). n + 1) (sym carry) ∙ e ∙ two-negative)) .full (omega arith) (omega arith)
+      (λ e. one-two (ap (λ (n : ℕ). n + 1) (sym carry) ∙ e ∙ two-negative))
       ∙ ap (λ (n : Number). alignedSum n (restacked other)) (restack-zero t h none)
     where
       none-two : _≡_ {A = ℕ} 0 2 → ⊥
@@ -116,7 +116,7 @@ module _ (x : Number) (b : Bytes x) (h : x .b1 ≡ 0) (s : sign x ≡ 1) where
       let none : wrapped x opposite ≡ 0 = ap (λ (k : ℕ). (low x + k) % 2 ^ 16) low-opposite ∙ back (low x) p (omega arith) in
       int-whole x x zeros s (truncate-not-full x h)
       (ap (sumOf x) minus
-      ∙ route-positive x opposite h refl (carry ∙ sym one-negative) .positive refl
+      ∙ sum-positive x opposite h refl (carry ∙ sym one-negative)
       ∙ ap (λ (n : ℕ). Done (halves 0 n)) none)
       (zero-passes zeros refl (omega arith))
     where
@@ -132,7 +132,7 @@ module _ (x : Number) (b : Bytes x) (h : x .b1 ≡ 0) (s : sign x ≡ 1) where
       let carry : carryOf (wrapped x opposite) (low x) ≡ 0 = ap₂ carryOf none z in
       int-part x x (halves 255 0) s (truncate-not-full x h)
       (ap (sumOf x) minus
-      ∙ route-negative x opposite h refl (ap (λ (n : ℕ). n + 1) carry ∙ sym one-negative) .negative refl
+      ∙ sum-negative x opposite h refl (ap (λ (n : ℕ). n + 1) carry ∙ sym one-negative)
       ∙ ap (λ (n : ℕ). Done (halves 255 n)) none)
       (some-fails (halves 255 0) refl (omega arith))
       ∙ odd-less-one x h s z

@@ -21,7 +21,7 @@ use Rattle.ending.specs.Ending.{loose, ended, closed}
 use Rattle.ending.specs.EndingLaws.{closed-stored, ended-set}
 use Rattle.addition.specs.Addition.{endedSum, alignedSum, fullRoute, differenceOf}
 use Rattle.addition.specs.SignedLaws.{same-sign}
-use Rattle.addition.specs.AdditionLaws.{shiftedBy, half, aligned-first, sum-ended, sum-carried}
+use Rattle.addition.specs.AdditionLaws.{shiftedBy, aligned-first, sum-ended, sum-stored}
 use Rattle.addition.specs.ShortRouteLaws.{first-full}
 use Rattle.truncation.specs.Truncate.{taken65536, cleared}
 use Rattle.truncation.specs.BitLaws.{Cleared, cleared-word}
@@ -30,15 +30,14 @@ use Rattle.truncation.specs.IntLaws.{minusOne}
 use Rattle.truncation.specs.FloorLaws.{Cut, cut-full}
 
 -- 2^31 moved down by j places; the half that is added is lost again
-one-moved : (j : ℕ) → 0 < j → j ≤ 31 → shiftedBy 1 (2 ^ 31) j ≡ 2 ^ (31 - j)
-one-moved j h g =
-    let p = half j h (omega arith) in
-    let places : 31 ≡ 31 - j + j = omega arith in
-    let split : 2 ^ 31 ≡ 2 ^ (31 - j) * 2 ^ j = ap (λ (n : ℕ). 2 ^ n) places ∙ pow-add 2 (31 - j) j in
-    let all : 2 ^ 31 + 2 ^ (j - 1) - 1 ≡ 2 ^ (j - 1) - 1 + 2 ^ (31 - j) * 2 ^ j = omega (arith, p .least) in
-    let none : (2 ^ (j - 1) - 1) / 2 ^ j ≡ 0 = div-eq-of-lt (omega (arith, p .twice, p .least)) in
-    simp (ne-eqb j 0 (omega arith), le-ltb 32 j (omega arith))
-    (ap (λ (n : ℕ). n / 2 ^ j) all ∙ add-mul-div-right (2 ^ (j - 1) - 1) (2 ^ (31 - j)) (pow-pos j) ∙ ap (λ (n : ℕ). n + 2 ^ (31 - j)) none ∙ omega arith)
+one-moved : (j : ℕ) → j ≤ 31 → shiftedBy 1 (2 ^ 31) j ≡ 2 ^ (31 - j)
+one-moved j g =
+    let places : 32 ≡ 31 - j + (j + 1) = omega arith in
+    let split : 2 ^ 32 ≡ 2 ^ (31 - j) * 2 ^ (j + 1) = ap (λ (n : ℕ). 2 ^ n) places ∙ pow-add 2 (31 - j) (j + 1) in
+    let all : 2 * 2 ^ 31 + 2 ^ j - 1 ≡ 2 ^ j - 1 + 2 ^ (31 - j) * 2 ^ (j + 1) = omega (arith, pow-pos j) in
+    let none : (2 ^ j - 1) / 2 ^ (j + 1) ≡ 0 = div-eq-of-lt (omega (arith, pow-pos j, pow-add 2 j 1)) in
+    simp (le-ltb 32 j (omega arith))
+    (ap (λ (n : ℕ). n / 2 ^ (j + 1)) all ∙ add-mul-div-right (2 ^ j - 1) (2 ^ (31 - j)) (pow-pos (j + 1)) ∙ ap (λ (n : ℕ). n + 2 ^ (31 - j)) none ∙ omega arith)
 
 one-opposite : restacked (negated shortOne) ≡ minusOne
 unfolding negated formOf passesZeroTest restacked fullOfShort leadingZeros
@@ -58,7 +57,7 @@ module _ (t : Number) (s : sign t ≡ 1) (h : 145 ≤ t .b1) (g : t .b1 < 160) w
       ∙ ap₂ alignedSum (restack-full t some) one-opposite
       ∙ aligned-first t minusOne (omega arith) (omega arith) (omega arith)
       ∙ ap₂ (λ (v w : ℤ). endedSum (v +ℤ w) (t .b1)) (ap₂ signed s m)
-      (ap (signed 1) (one-moved (t .b1 - 129) (omega arith) (omega arith) ∙ ap (λ (n : ℕ). 2 ^ n) places))
+      (ap (signed 1) (one-moved (t .b1 - 129) (omega arith) ∙ ap (λ (n : ℕ). 2 ^ n) places))
       ∙ ap (λ (z : ℤ). endedSum z (t .b1)) (same-sign 1 (mantissa t) (2 ^ (160 - t .b1)))
 
   pub full-less-one : more < 2 ^ 32 → differenceOf t shortOne ≡ Done (fullOf 1 (t .b1) more)
@@ -71,15 +70,10 @@ module _ (t : Number) (s : sign t ≡ 1) (h : 145 ≤ t .b1) (g : t .b1 < 160) w
       ∙ closed-stored 1 (loose more (t .b1 + 256) 0) (omega arith) (omega arith)
       ∙ ap₂ (λ (i n : ℕ). Done (fullOf 1 i n)) e r
 
-  pub full-less-one-carried : 2 ^ 32 ≤ more → more < 2 ^ 33 → differenceOf t shortOne ≡ Done (fullOf 1 (t .b1 + 1) (more / 2))
+  pub full-less-one-carried : 2 ^ 32 ≤ more → more + 1 < 2 ^ 33 → differenceOf t shortOne ≡ Done (fullOf 1 (t .b1 + 1) (more / 2))
   full-less-one-carried f l =
-      let e : t .b1 + 1 + 256 - 256 ≡ t .b1 + 1 = omega arith in
-      let r : (more + 1 - 1) / 2 + 0 ≡ more / 2 = omega arith in
-      sum
-      ∙ sum-carried 1 more (t .b1) (omega arith) f (omega arith)
-      ∙ ended-set 1 ((more + 1 - 1) / 2) (t .b1 + 1 + 256) 0 (omega arith)
-      ∙ closed-stored 1 (loose ((more + 1 - 1) / 2) (t .b1 + 1 + 256) 0) (omega arith) (omega arith)
-      ∙ ap₂ (λ (i n : ℕ). Done (fullOf 1 i n)) e r
+      let r : (more + 1 - 1) / 2 ≡ more / 2 = omega arith in
+      sum ∙ sum-stored 1 more (t .b1) (omega arith) f (omega arith) (omega arith) ∙ ap (λ (n : ℕ). Done (fullOf 1 (t .b1 + 1) n)) r
 
 module _ (x : Number) (b : Bytes x) (s : sign x ≡ 1) (h : 145 ≤ x .b1) (g : x .b1 < 160) (t : taken65536 x ≡ false) where
   abbrev k : ℕ
@@ -108,8 +102,8 @@ module _ (x : Number) (b : Bytes x) (s : sign x ≡ 1) (h : 145 ≤ x .b1) (g : 
     int-up f =
         cuts .part p ∙ full-less-one whole (kept .sign ∙ s) h g (le-trans (le-of-eq (ap suc equal)) f) ∙ ap (λ (m : ℕ). Done (fullOf 1 (x .b1) m)) equal
 
-    pub int-up-carried : 2 ^ 32 ≤ raised → raised < 2 ^ 33 → intOf x ≡ Done (fullOf 1 (x .b1 + 1) (raised / 2))
+    pub int-up-carried : 2 ^ 32 ≤ raised → raised + 1 < 2 ^ 33 → intOf x ≡ Done (fullOf 1 (x .b1 + 1) (raised / 2))
     int-up-carried f l =
         cuts .part p
-        ∙ full-less-one-carried whole (kept .sign ∙ s) h g (le-trans f (le-of-eq (sym equal))) (le-trans (le-of-eq (ap suc equal)) l)
+        ∙ full-less-one-carried whole (kept .sign ∙ s) h g (le-trans f (le-of-eq (sym equal))) (le-trans (le-of-eq (ap (λ (n : ℕ). suc (n + 1)) equal)) l)
         ∙ ap (λ (m : ℕ). Done (fullOf 1 (x .b1 + 1) (m / 2))) equal

@@ -10,7 +10,7 @@ use lib.IntN.{ℤ, pos, _*ℤ_}
 use lib.Pow.{pow-add, pow-pos, pow-mono, shl-lt}
 use Rattle.number.specs.declared.Number.{Number}
 use Rattle.number.specs.Number.{sign, mantissa, shortOf, zeros}
-use Rattle.number.specs.NumberLaws.{Bytes, short-b1}
+use Rattle.number.specs.NumberLaws.{Bytes}
 use Rattle.number.specs.Value.{signed, shortValue, fullValue}
 use Rattle.number.specs.ValueLaws.{signed-times, signed-zero, short-of-value}
 use Rattle.truncation.specs.Truncate.{taken65536, cleared, truncatedFull, truncated}
@@ -50,8 +50,8 @@ module _ (x : Number) (b : Bytes x) (f : 0 < x .b1) (t : taken65536 x ≡ false)
   short h g =
       let v = m / 2 ^ k in
       let some = dropped m k (omega arith) (omega arith) (omega arith) .some in
-      simp (short-b1 s v)
-      (ap (λ (z : ℤ). z *ℤ pos (2 ^ 160)) (short-of-value s v (omega arith) some (dropped-lt m k (omega arith) (omega arith))) ∙ signed-times s v (2 ^ 160))
+      ap (λ (z : ℤ). z *ℤ pos (2 ^ 160)) (short-of-value s v (omega arith) some (dropped-lt m k (omega arith) (omega arith)))
+      ∙ signed-times s v (2 ^ 160)
       ∙ ap (λ (n : ℕ). signed s (n * 2 ^ 160)) (sym (whole-part m k (x .b1) (omega arith)))
 
   large : 145 ≤ x .b1 → x .b1 < 160 → Whole (record { b1 = x .b1; word = cleared k (x .word) })

@@ -17,27 +17,33 @@ pub fn truncate(x: Number) -> Number
     ensures { λ r. ⌜ r ≡ truncated x ⌝ }
 {
     let e = x.b1;
+    let word = x.word;
     if e == 0 {
-        return x;
+        return Number { b1: e, word };
     }
     if e < 129 {
-        return number::zero();
+        return Number { b1: 0, word: 0 };
     }
+    if 159 < e {
+        return Number { b1: e, word };
+    }
+    let places = 160 - e;
     if e < 145 {
-        return number::short(
-            number::sign_of(x),
-            (number::mantissa(x) >> (160 - e)) as u16,
-        );
-    }
-    if is_taken_65536(x) {
-        return number::short_halves(255, 0);
-    }
-    if e < 160 {
-        let places = 160 - e;
+        let v = ((word % 2147483648 + 2147483648) >> places) as u16;
         return Number {
-            b1: e,
-            word: (x.word >> places) << places,
+            b1: 0,
+            word: number::short_word((word / 2147483648) as u8, v),
         };
     }
-    x
+    if is_taken_65536(Number { b1: e, word }) {
+        // Odd, FF 00 00 00.
+        return Number {
+            b1: 0,
+            word: 4278190080,
+        };
+    }
+    Number {
+        b1: e,
+        word: (word >> places) << places,
+    }
 }

@@ -14,49 +14,73 @@ fn floor_of(x: Number) -> Number
     requires { ⌜ (sign x ≡ 1) × (129 ≤ x .b1) × (x .b1 < 160) ⌝ }
     ensures { λ r. ⌜ intOf x ≡ Done r ⌝ }
 {
-    // Odd, less 1, goes the full route, where it counts as zero.
-    if is_taken_65536(x) {
-        return number::full(1, 129, 2147483648);
-    }
     let e = x.b1;
-    let m = number::mantissa(x);
+    let word = x.word;
+    // Odd, less 1, goes the full route, where it counts as zero.
+    if is_taken_65536(Number { b1: e, word }) {
+        return Number {
+            b1: 129,
+            word: 2147483648,
+        };
+    }
+    let m = (word % 2147483648 + 2147483648) as u64;
     let places = 160 - e;
     let cut = (m >> places) << places;
     if e < 145 {
         let v = (m >> places) as u16;
         if cut == m {
-            return number::short_halves(255, number::complement(v));
+            return Number {
+                b1: 0,
+                word: number::halves_word(255, number::complement(v)),
+            };
         }
-        return number::short_halves(255, 65535 - v);
+        return Number {
+            b1: 0,
+            word: number::halves_word(255, 65535 - v),
+        };
     }
     if cut == m {
-        return x;
+        return Number { b1: e, word };
     }
     let more = cut + (1u64 << places);
     if more < 4294967296 {
-        return number::full(1, e, more);
+        return Number {
+            b1: e,
+            word: number::full_word(1, more),
+        };
     }
-    number::full(1, e + 1, more / 2)
+    Number {
+        b1: e + 1,
+        word: number::full_word(1, more / 2),
+    }
 }
 
 pub fn int(x: Number) -> Number
     ensures { λ r. ⌜ intOf x ≡ Done r ⌝ }
 {
-    if x.word < 2147483648 {
-        return truncate(x);
-    }
     let e = x.b1;
+    let word = x.word;
+    if word < 2147483648 {
+        return truncate(Number { b1: e, word });
+    }
     if e == 0 {
-        if number::low_half(x) == 0 {
-            return number::full(1, 129, 2147483648);
+        if number::low_half(word) == 0 {
+            return Number {
+                b1: 129,
+                word: 2147483648,
+            };
         }
-        return x;
+        return Number { b1: e, word };
     }
     if e < 129 {
-        return number::short_halves(255, 65535);
+        // The short -1, FF FF FF 00.
+        return Number {
+            b1: 0,
+            word: 4294967040,
+        };
     }
     if e < 160 {
-        return floor_of(x);
+        return floor_of(Number { b1: e, word });
     }
-    x
+    Number { b1: e, word }
 }

@@ -12,8 +12,8 @@ returns : tie.Need-returns
 unfolding storedOf
 returns c =
     let p = c .before .before in
-    let m = p .before .before in
-    let i = m .before .before .before .before .before in
+    let m = p .before .before .before in
+    let i = m .before .before .before .before in
     let after : i .args .depth .now - 2 + 1 ≡ i .args .depth .now - i .args .taken + i .args .left = omega arith in
     ap (storedOf (i .args .stack .now) (i .args .depth .now)) (m .before .answer .given .1)
     ∙ ap₂ (λ (d : ℕ) (s : List ℕ). (0, d, s)) after (sym (p .put-in .ensures))

@@ -1,28 +1,28 @@
 -- `close` meets its contract: each return is one case of `closed`, and the tests that led there are its law's premises.
 use mathlib.Core.Path.{sym, ap, _∙_}
-use borrow.Author.Needs.{needs}
+use Prim.Native.Nat.{ℕ, _-_}
 use native.Mathlib.Omega.{arith}
+use Rattle.number.specs.Number.{number}
 use Rattle.ending.specs.EndingLaws.{closed-too-big, closed-below-zero, closed-smallest, closed-stored}
 use Rattle.ending.specs.declared.answer.Answer.the-variants.{Done}
 use Rattle.ending.proofs.closing.close.Statement.{statement}
 use Rattle.ending.proofs.closing.close.Tie as tie
 
 returns-3 : tie.Need-returns-3
-returns-3 c = ap Done (c .full .ensures) ∙ sym (closed-smallest _ _ (omega arith))
+returns-3 c = ap (λ (w : ℕ). Done (number 1 w)) (c .full-word .ensures) ∙ sym (closed-smallest _ _ (omega arith))
 
 returns-4 : tie.Need-returns-4
-returns-4 c = ap Done (c .full2 .ensures) ∙ sym (closed-stored _ _ (omega arith) (omega arith))
+returns-4 c = ap (λ (w : ℕ). Done (number (c .before .before .before .before .args .e - 256) w)) (c .full-word2 .ensures) ∙ sym (closed-stored _ _ (omega arith) (omega arith))
 
 pub close-spec : {M : Type 1} → statement M
 close-spec =
     tie.close
     (tie.spec
     (λ c. sym (closed-too-big _ _ (omega arith)))
-    (λ c κs. search needs)
-    (λ c. ap Done (c .zero .ensures) ∙ sym (closed-below-zero _ _ (omega arith)))
-    (λ c κs. search needs)
+    (λ c. sym (closed-below-zero _ _ (omega arith)))
+    (λ c κs. tt)
     returns-3
-    (λ c. search needs)
-    (λ c. search needs)
-    (λ c κs. search needs)
+    (λ c. omega arith)
+    (λ c. omega arith)
+    (λ c κs. tt)
     returns-4)

@@ -3,7 +3,6 @@
 use mathlib.Core.Path.{sym, ap, _∙_}
 use borrow.Author.Needs.{needs}
 use native.Mathlib.Omega.{arith}
-use Rattle.ending.specs.declared.answer.Answer.the-variants.{Done}
 use Rattle.ending.specs.Ending.{closed}
 use Rattle.ending.specs.EndingLaws.{ended-zero, ended-other, ended-set, ended-below}
 use Rattle.ending.proofs.doubling.ending.Statement.{statement}
@@ -15,10 +14,8 @@ ending-spec =
     (tie.spec
     (λ c κs. search needs)
     (λ c. c .close .ensures ∙ sym (ended-set _ _ _ _ (omega arith)))
-    (λ c κs. search needs)
-    (λ c. ap Done (c .zero .ensures) ∙ sym (ended-zero _ _ _ _ (omega arith)))
-    (λ c κs. search needs)
-    (λ c. ap Done (c .zero2 .ensures) ∙ sym (ended-below _ _ _ _ (omega arith)))
+    (λ c. sym (ended-zero _ _ _ _ (omega arith)))
+    (λ c. sym (ended-below _ _ _ _ (omega arith)))
     (λ c κs. search needs)
     (λ c. search needs)
     (λ c κs. search needs)
