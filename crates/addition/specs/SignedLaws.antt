@@ -1,5 +1,5 @@
 -- Whole numbers as a sign and a magnitude: sums, and the floor of document 01's shifts, for any number of places.
-use Prim.Native.Nat.{ℕ, zero, suc, pred, _+_, _-_, _^_, _/_, _≤_, _<_}
+use Prim.Native.Nat.{ℕ, zero, suc, pred, _+_, _-_, _^_, _/_, _%_, _≤_, _<_}
 use mathlib.Core.Path.{_≡_, refl, sym, _∙_, ap}
 use mathlib.Core.Logic.{_⊎_, inl, inr}
 use mathlib.Core.Bool.{Bool, true, false}
@@ -70,6 +70,51 @@ first-larger (suc s) (suc t) m n h g d l = absurd (d (omega arith))
 
 pub second-larger : (s t m n : ℕ) → s < 2 → t < 2 → (s ≡ t → ⊥) → m ≤ n → signed s m +ℤ signed t n ≡ signed t (n - m)
 second-larger s t m n h g d l = +ℤ-comm (signed s m) (signed t n) ∙ first-larger t s n m g h (λ e. d (sym e)) l
+
+-- ---- sums in two's complement on 64 bits
+
+abbrev pub twos : ℕ → ℕ → ℕ
+twos zero m = m
+twos (suc s) m = (2 ^ 64 - m) % 2 ^ 64
+
+abbrev Sums : ℕ → ℕ → ℕ → ℕ → ℕ → ℕ → Type 0
+Sums s m o n r t = (signed s m +ℤ signed o n ≡ signed r t) × (t + 1 < 2 ^ 33)
+
+-- pos m less n, as it comes out with its top bit clear and set
+less-clear : (m n w : ℕ) → m < 2 ^ 32 → n < 2 ^ 32 → w ≡ (m + twos 1 n) % 2 ^ 64 → w < 2 ^ 63 → Sums 0 m 1 n 0 w
+less-clear m n w h g e l =
+    let le : n ≤ m = omega arith in let is : m - n ≡ w = omega arith in
+    (above m n le ∙ ap pos is, omega arith)
+
+less-set : (m n w t : ℕ) → m < 2 ^ 32 → n < 2 ^ 32 → w ≡ (m + twos 1 n) % 2 ^ 64 → 2 ^ 63 ≤ w → t < 2 ^ 64 → (t + w) % 2 ^ 64 ≡ 0 → Sums 0 m 1 n 1 t
+less-set m n w t h g e l b f =
+    let le : m ≤ n = omega arith in let is : n - m ≡ t = omega arith in
+    (below m n le ∙ ap (λ (i : ℕ). negℤ (pos i)) is, omega arith)
+
+swap : (s m o n r t : ℕ) → Sums s m o n r t → Sums o n s m r t
+swap s m o n r t p = (+ℤ-comm (signed o n) (signed s m) ∙ p .0, p .1)
+
+pub sum-clear : (s m o n w : ℕ) → s < 2 → o < 2 → m < 2 ^ 32 → n < 2 ^ 32 → w ≡ (twos s m + twos o n) % 2 ^ 64 → w < 2 ^ 63 → Sums s m o n 0 w
+sum-clear zero m zero n w a b h g e l = let is : m + n ≡ w = omega arith in (ap pos is, omega arith)
+sum-clear zero m (suc zero) n w a b h g e l = less-clear m n w h g e l
+sum-clear (suc zero) m zero n w a b h g e l = swap 0 n 1 m 0 w (less-clear n m w g h (omega arith) l)
+sum-clear (suc zero) m (suc zero) n w a b h g e l =
+    let none : m + n ≡ 0 = omega arith in let is : 0 ≡ w = omega arith in
+    (same-sign 1 m n ∙ ap (λ (i : ℕ). negℤ (pos i)) none ∙ ap pos is, omega arith)
+sum-clear (suc (suc s)) m o n w a b h g e l = absurd (omega arith)
+sum-clear zero m (suc (suc o)) n w a b h g e l = absurd (omega arith)
+sum-clear (suc zero) m (suc (suc o)) n w a b h g e l = absurd (omega arith)
+
+pub sum-set : (s m o n w t : ℕ) → s < 2 → o < 2 → m < 2 ^ 32 → n < 2 ^ 32 → w ≡ (twos s m + twos o n) % 2 ^ 64 → 2 ^ 63 ≤ w
+    → t < 2 ^ 64 → (t + w) % 2 ^ 64 ≡ 0 → Sums s m o n 1 t
+sum-set zero m zero n w t a b h g e l c f = absurd (omega arith)
+sum-set zero m (suc zero) n w t a b h g e l c f = less-set m n w t h g e l c f
+sum-set (suc zero) m zero n w t a b h g e l c f = swap 0 n 1 m 1 t (less-set n m w t g h (omega arith) l c f)
+sum-set (suc zero) m (suc zero) n w t a b h g e l c f =
+    let is : m + n ≡ t = omega arith in (same-sign 1 m n ∙ ap (λ (i : ℕ). negℤ (pos i)) is, omega arith)
+sum-set (suc (suc s)) m o n w t a b h g e l c f = absurd (omega arith)
+sum-set zero m (suc (suc o)) n w t a b h g e l c f = absurd (omega arith)
+sum-set (suc zero) m (suc (suc o)) n w t a b h g e l c f = absurd (omega arith)
 
 -- ---- the shift
 

@@ -7,6 +7,7 @@ ghost use Prim.Native.Nat.{_+_, _^_, _≤_, _<_};
 ghost use Rattle.number.specs.Number.{number};
 ghost use Rattle.number.specs.Value.{signed};
 ghost use Rattle.addition.specs.Addition.{endedSum, fullRoute, sumOf};
+ghost use Rattle.addition.specs.SignedLaws.{twos};
 ghost use Rattle.addition.specs.AdditionLaws.{shiftedBy, Ordered, Adds};
 ghost use Rattle.addition.specs.ShortRouteLaws.{carryOf};
 
@@ -26,19 +27,29 @@ struct Whole {
     t: u64,
 }
 
+// A whole number in two's complement on 64 bits.
+fn twos_complement(sign: u8, m: u64) -> u64
+    requires { ⌜ sign < 2 ⌝ }
+    ensures { λ r. ⌜ r ≡ twos sign m ⌝ }
+{
+    if sign == 0 {
+        return m;
+    }
+    std::num::wrapping_sub_u64(0, m)
+}
+
+// Signs are as good as random: the sum in two's complement has no branch that goes by them.
 fn added(sign: u8, m: u64, other: u8, n: u64) -> Whole
     requires { ⌜ (sign < 2) × (m < 2 ^ 32) × (other < 2) × (n < 2 ^ 32) ⌝ }
     ensures { λ r. ⌜ Adds sign m other n r ⌝ }
 {
-    if sign == other {
-        return Whole { sign, t: m + n };
-    }
-    if n <= m {
-        return Whole { sign, t: m - n };
+    let sum = std::num::wrapping_add_u64(twos_complement(sign, m), twos_complement(other, n));
+    if sum < 9223372036854775808 {
+        return Whole { sign: 0, t: sum };
     }
     Whole {
-        sign: other,
-        t: n - m,
+        sign: 1,
+        t: std::num::wrapping_sub_u64(0, sum),
     }
 }
 
