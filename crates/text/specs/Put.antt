@@ -38,10 +38,6 @@ puts-join t (x ∷ xs) ys = puts-join (putOf t x) xs ys
 pub puts-then : (t : Text) {u v : Text} (xs ys : List ℕ) → v ≡ putsOf t xs → u ≡ putsOf v ys → u ≡ putsOf t (xs ++ ys)
 puts-then t xs ys e f = f ∙ ap (λ (w : Text). putsOf w ys) e ∙ puts-join t xs ys
 
-pub put-then : (t : Text) {u v : Text} (x : ℕ) (ys : List ℕ) → v ≡ putOf t x → u ≡ putsOf v ys → u ≡ putsOf t (x ∷ ys)
-unfolding putsOf
-put-then t x ys e f = f ∙ ap (λ (w : Text). putsOf w ys) e
-
 pub put-last : (t : Text) {u : Text} (x : ℕ) → u ≡ putOf t x → u ≡ putsOf t (x ∷ [])
 unfolding putsOf
 put-last t x e = e

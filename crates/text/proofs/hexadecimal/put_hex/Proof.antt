@@ -1,7 +1,7 @@
 -- `put_hex` meets its contract: the two digits, one after the other.
 use borrow.Author.Needs.{needs}
 use native.Mathlib.Omega.{arith}
-use Rattle.text.specs.Put.{put-then, put-last}
+use Rattle.text.specs.Put.{puts-then, put-last}
 use Rattle.text.proofs.hexadecimal.put_hex.Statement.{statement}
 use Rattle.text.proofs.hexadecimal.put_hex.Tie as tie
 
@@ -12,4 +12,4 @@ put-hex-spec =
     (λ c κs. omega arith)
     (λ c κs. omega arith)
     (λ c. search needs)
-    (λ c. put-then _ _ _ (c .before .before .before .before .before .before .put-digit .ensures) (put-last _ _ (c .before .before .put-digit2 .ensures))))
+    (λ c. puts-then _ _ _ (put-last _ _ (c .before .before .before .before .before .before .put-digit .ensures)) (put-last _ _ (c .before .before .put-digit2 .ensures))))
