@@ -1,51 +1,31 @@
 -- The text of a line: the line without its carriage return, and without the blanks before and after. Space is 32 in ASCII, tab 9, the carriage
 -- return 13.
 use Prim.Native.Nat.{ℕ, zero, suc, _+_, _-_, _<_, _≤_}
-use mathlib.Core.Path.{_≡_, refl, sym, _∙_}
+use mathlib.Core.Path.{_≡_, sym}
 use mathlib.Core.Bool.{Bool, true, false, cond}
 use mathlib.Core.List.{List, [], _∷_}
 use native.Mathlib.Omega.{arith}
 use native.Mathlib.Numerals.{add-one}
 use lib.Dec.{eqb}
-use lib.ListN.{length, drop, take, getD, length-drop, drop-of-length-le}
-use lib.Seq.{drop-cons, take-all}
+use lib.ListN.{length, take, drop, getD}
+use lib.Seq.{length-take-le, take-add, drop-at, slice, slice-empty, slice-cons}
 
-unfoldable pub blank : ℕ → Bool
-blank c = cond (eqb c 32) true (eqb c 9)
+-- a space or a tab, and in the line's last place a carriage return
+unfoldable pub blank : Bool → ℕ → Bool
+blank last c = cond (eqb c 32) true (cond (eqb c 9) true (cond last (eqb c 13) false))
+
+-- where the first n bytes of a line end without the blanks after them
+unfoldable pub endOf : List ℕ → ℕ → ℕ
+endOf s zero = 0
+endOf s (suc n) = cond (blank (eqb (suc n) (length s)) (getD s n 0)) (endOf s n) (suc n)
 
 -- a list without the blanks before it
 unfoldable pub started : List ℕ → List ℕ
 started [] = []
-started (c ∷ cs) = cond (blank c) (started cs) (c ∷ cs)
-
--- what may be left out at a line's end: a blank, or a carriage return in the last place
-unfoldable pub trailing : List ℕ → ℕ → Bool
-trailing s i = cond (blank (getD s i 0)) true (cond (eqb (i + 1) (length s)) (eqb (getD s i 0) 13) false)
-
--- where the first n bytes of a line end without that
-unfoldable pub endOf : List ℕ → ℕ → ℕ
-endOf s zero = 0
-endOf s (suc n) = cond (trailing s n) (endOf s n) (suc n)
+started (c ∷ cs) = cond (blank false c) (started cs) (c ∷ cs)
 
 unfoldable pub textOf : List ℕ → List ℕ
 textOf s = started (take (endOf s (length s)) s)
-
-pub rest : (s : List ℕ) (i : ℕ) → take (length s - i) (drop i s) ≡ drop i s
-rest s i = take-all (length s - i) (drop i s) (omega (arith, length-drop i s))
-
--- the list from i on
-module _ (s : List ℕ) (i : ℕ) where
-  pub start-over : length s ≤ i → started (drop i s) ≡ drop i s
-  unfolding started
-  start-over h = rw (drop-of-length-le s h)
-
-  pub start-here : i < length s → blank (getD s i 0) ≡ false → started (drop i s) ≡ drop i s
-  unfolding started
-  start-here h b = rw (drop-cons s i 0, b)
-
-  pub start-later : i < length s → blank (getD s i 0) ≡ true → started (drop i s) ≡ started (drop (i + 1) s)
-  unfolding started
-  start-later h b = rw (drop-cons s i 0, b, add-one)
 
 -- the first n bytes
 module _ (s : List ℕ) (n : ℕ) where
@@ -53,10 +33,34 @@ module _ (s : List ℕ) (n : ℕ) where
   unfolding endOf
   end-none h = rw h
 
-  pub end-here : (m : ℕ) → trailing s m ≡ false → n ≡ suc m → endOf s n ≡ n
+  pub end-here : (m : ℕ) → blank (eqb n (length s)) (getD s m 0) ≡ false → n ≡ suc m → endOf s n ≡ n
   unfolding endOf
-  end-here m t h = rw (h, t)
+  end-here m t h = rw h (simp (rw h at t))
 
-  pub end-before : (m : ℕ) → trailing s m ≡ true → n ≡ suc m → endOf s n ≡ endOf s m
+  pub end-before : (m : ℕ) → blank (eqb n (length s)) (getD s m 0) ≡ true → n ≡ suc m → endOf s n ≡ endOf s m
   unfolding endOf
-  end-before m t h = rw (h, t)
+  end-before m t h = rw h (simp (rw h at t))
+
+-- a part of a slice, as the code takes it
+pub part : (s : List ℕ) (i e : ℕ) → i ≤ e → e ≤ length s → take (e - i) (drop i s) ≡ slice i e s
+part s i e h g =
+    let all : i + (e - i) ≡ e = omega arith in
+    let it : drop i (take (i + (e - i)) s) ≡ take (e - i) (drop i s) = rw (take-add i (e - i) s) (drop-at (take i s) _ i (length-take-le i s (omega arith))) in
+    sym (rw all at it)
+
+-- the bytes from i to e
+module _ (s : List ℕ) (i e : ℕ) where
+  pub start-over : e ≤ i → i ≤ e → started (slice i e s) ≡ slice i e s
+  unfolding started
+  start-over h g =
+      let same : i ≡ e = omega arith in
+      rw (same, slice-empty e s)
+
+  module _ (h : i < e) (g : e ≤ length s) where
+    pub start-here : blank false (getD s i 0) ≡ false → started (slice i e s) ≡ slice i e s
+    unfolding started
+    start-here b = rw (slice-cons i e s 0 h g) (simp b)
+
+    pub start-later : blank false (getD s i 0) ≡ true → started (slice i e s) ≡ started (slice (i + 1) e s)
+    unfolding started
+    start-later b = rw (slice-cons i e s 0 h g, add-one) (simp b)

@@ -1,5 +1,5 @@
--- A literal, in decimal or by its name in the ROM's listing, as ASCII: `0` is 48. What is no literal comes to 256 or more.
-use Prim.Native.Nat.{ℕ, suc, _+_, _-_, _*_, _<_, _≤_}
+-- A literal, in decimal or by its name in the ROM's listing, as ASCII. What is no literal comes to 256 or more.
+use Prim.Native.Nat.{ℕ, suc, _+_, _*_, _%_, _<_, _≤_}
 use mathlib.Core.Path.{_≡_, refl, ap}
 use mathlib.Core.Bool.{Bool, true, false, cond}
 use mathlib.Core.List.{List, [], _∷_}
@@ -9,15 +9,12 @@ use lib.Dec.{eqb, ltb}
 use lib.ListN.{length, drop, getD, drop-of-length-le}
 use lib.Seq.{drop-cons}
 use borrow.Author.Tests.{lt-ltb, le-ltb, eq-eqb, ne-eqb}
+use Rattle.text.specs.Digits.{valueOf}
 
--- a decimal digit
-unfoldable pub digitOf : ℕ → ℕ
-digitOf c = cond (ltb c 48) 256 (cond (ltb c 58) (c - 48) 256)
-
--- digits, after some of value v
+-- digits, after others of which the last three come to v
 unfoldable pub decimalFrom : ℕ → List ℕ → ℕ
 decimalFrom v [] = v
-decimalFrom v (c ∷ cs) = cond (ltb 255 v) 256 (decimalFrom (10 * v + digitOf c) cs)
+decimalFrom v (c ∷ cs) = cond (ltb 9 (valueOf c)) 256 (decimalFrom (10 * (v % 100) + valueOf c) cs)
 
 -- "a literal in decimal": one to three digits
 unfoldable pub decimalIn : List ℕ → ℕ
@@ -57,13 +54,13 @@ module _ (s : List ℕ) (i v : ℕ) where
   unfolding decimalFrom
   decimal-done h = rw (drop-of-length-le s h)
 
-  pub decimal-over : i < length s → 255 < v → decimalFrom v (drop i s) ≡ 256
+  pub decimal-none : {d : ℕ} → i < length s → d ≡ valueOf (getD s i 0) → 9 < d → decimalFrom v (drop i s) ≡ 256
   unfolding decimalFrom
-  decimal-over h g = rw (drop-cons s i 0, lt-ltb 255 v g)
+  decimal-none h e g = rw (drop-cons s i 0, ← e) (simp (lt-ltb _ _ g))
 
-  pub decimal-next : {d : ℕ} → i < length s → v ≤ 255 → d ≡ digitOf (getD s i 0) → decimalFrom v (drop i s) ≡ decimalFrom (10 * v + d) (drop (i + 1) s)
+  pub decimal-next : {d : ℕ} → i < length s → d ≡ valueOf (getD s i 0) → d ≤ 9 → decimalFrom v (drop i s) ≡ decimalFrom (10 * (v % 100) + d) (drop (i + 1) s)
   unfolding decimalFrom
-  decimal-next h g e = rw (drop-cons s i 0, le-ltb 255 v g, add-one, e)
+  decimal-next h e g = rw (drop-cons s i 0, ← e, add-one) (simp (le-ltb _ _ g))
 
 either : (b : Bool) → cond b false false ≡ false
 either true = refl

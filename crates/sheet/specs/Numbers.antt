@@ -3,8 +3,6 @@ use Prim.Native.Nat.{ℕ, _+_, _*_, _/_, _%_, _^_, _<_, _≤_}
 use mathlib.Core.Path.{_≡_}
 use mathlib.Core.Bool.{Bool, true, false, cond}
 use mathlib.Core.List.{List, [], _∷_}
-use native.Mathlib.Omega.{arith}
-use native.Mathlib.Nat.{pow-le-pow-right}
 use native.Mathlib.Numerals.{add-one}
 use lib.Dec.{eqb, ltb}
 use lib.ListN.{length, drop, getD, drop-of-length-le}
@@ -19,18 +17,12 @@ use Rattle.sheet.specs.Blanks.{blank}
 abbrev pub number : ℕ → Number
 number v = record { b1 = v / 2 ^ 32; word = v % 2 ^ 32 }
 
--- after k digits of value v
+-- after k digits, of which the last ten come to v
 unfoldable pub numberFrom : ℕ → ℕ → List ℕ → Line
 numberFrom k v [] = cond (eqb k 10) (Push (number v)) Unreadable
 numberFrom k v (c ∷ cs) =
-    cond (ltb (valueOf c) 16)
-    (cond (eqb k 10) Unreadable (numberFrom (k + 1) (16 * v + valueOf c) cs))
-    (cond (eqb (k % 2) 0) (cond (blank c) (numberFrom k v cs) Unreadable) Unreadable)
-
-pub digits-fit : (k v d : ℕ) → v < 16 ^ k → (k ≡ 10 → ⊥) → k ≤ 10 → d < 16 → (16 * v + d < 16 ^ (k + 1)) × (16 * v + d < 2 ^ 40)
-digits-fit k v d h n m e =
-    let most : 16 ^ k ≤ 16 ^ 9 = pow-le-pow-right {n = 16} (omega arith) {i = k} {j = 9} (omega arith) in
-    (rw add-one (omega arith), omega arith)
+    cond (ltb (valueOf c) 16) (numberFrom (k + 1) (16 * (v % 2 ^ 36) + valueOf c) cs)
+    (cond (eqb (k % 2) 0) (cond (blank false c) (numberFrom k v cs) Unreadable) Unreadable)
 
 module _ (s : List ℕ) (i k v : ℕ) where
   pub number-done : length s ≤ i → k ≡ 10 → numberFrom k v (drop i s) ≡ Push (number v)
@@ -42,22 +34,18 @@ module _ (s : List ℕ) (i k v : ℕ) where
   number-short h g = rw (drop-of-length-le s h) (simp (ne-eqb _ _ g))
 
   module _ (h : i < length s) (d : ℕ) (e : d ≡ valueOf (getD s i 0)) where
-    pub number-long : d < 16 → k ≡ 10 → numberFrom k v (drop i s) ≡ Unreadable
+    pub number-digit : d < 16 → numberFrom k v (drop i s) ≡ numberFrom (k + 1) (16 * (v % 2 ^ 36) + d) (drop (i + 1) s)
     unfolding numberFrom
-    number-long l g = rw (drop-cons s i 0 h, ← e) (simp (lt-ltb _ _ l, eq-eqb _ _ g))
-
-    pub number-digit : d < 16 → (k ≡ 10 → ⊥) → numberFrom k v (drop i s) ≡ numberFrom (k + 1) (16 * v + d) (drop (i + 1) s)
-    unfolding numberFrom
-    number-digit l g = rw (drop-cons s i 0 h, ← e, add-one i) (simp (lt-ltb _ _ l, ne-eqb _ _ g))
+    number-digit l = rw (drop-cons s i 0 h, ← e, add-one i) (simp (lt-ltb _ _ l))
 
     pub number-odd : 16 ≤ d → (k % 2 ≡ 0 → ⊥) → numberFrom k v (drop i s) ≡ Unreadable
     unfolding numberFrom
     number-odd l g = rw (drop-cons s i 0 h, ← e) (simp (le-ltb _ _ l, ne-eqb _ _ g))
 
-    pub number-blank : 16 ≤ d → k % 2 ≡ 0 → blank (getD s i 0) ≡ true → numberFrom k v (drop i s) ≡ numberFrom k v (drop (i + 1) s)
+    pub number-blank : 16 ≤ d → k % 2 ≡ 0 → blank false (getD s i 0) ≡ true → numberFrom k v (drop i s) ≡ numberFrom k v (drop (i + 1) s)
     unfolding numberFrom
     number-blank l g b = rw (drop-cons s i 0 h, ← e, add-one i) (simp (le-ltb _ _ l, eq-eqb _ _ g, b))
 
-    pub number-other : 16 ≤ d → k % 2 ≡ 0 → blank (getD s i 0) ≡ false → numberFrom k v (drop i s) ≡ Unreadable
+    pub number-other : 16 ≤ d → k % 2 ≡ 0 → blank false (getD s i 0) ≡ false → numberFrom k v (drop i s) ≡ Unreadable
     unfolding numberFrom
     number-other l g b = rw (drop-cons s i 0 h, ← e) (simp (le-ltb _ _ l, eq-eqb _ _ g, b))

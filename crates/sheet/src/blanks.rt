@@ -1,58 +1,53 @@
 // The text of a line: where it starts and where it ends.
 ghost use mathlib.Core.Path.{_≡_};
-ghost use Prim.Native.Nat.{_≤_, _<_};
-ghost use lib.ListN.{length, drop};
-ghost use Rattle.sheet.specs.Blanks.{blank, started, trailing, endOf};
+ghost use mathlib.Core.Bool.{false};
+ghost use Prim.Native.Nat.{_≤_};
+ghost use lib.ListN.{length, take};
+ghost use lib.Seq.{slice};
+ghost use Rattle.sheet.specs.Blanks.{blank, started, endOf};
 
-pub fn is_blank(c: u8) -> bool
-    ensures { λ r. ⌜ r ≡ blank c ⌝ }
+pub fn is_blank(last: bool, c: u8) -> bool
+    ensures { λ r. ⌜ r ≡ blank last c ⌝ }
 {
     if c == b' ' {
         return true;
     }
-    c == b'\t'
-}
-
-// How many blanks a text begins with.
-pub fn start(text: &[u8]) -> usize
-    ensures { λ r. ⌜ (drop r (now (text .entry)) ≡ started (now (text .entry))) × (r ≤ length (now (text .entry))) ⌝ }
-{
-    let mut i = 0;
-    while i < text.len() {
-        if is_blank(text[i]) {
-            i += 1;
-        } else {
-            return i;
-        }
-    }
-    i
-}
-
-fn is_trailing(line: &[u8], i: usize) -> bool
-    requires { ⌜ i < length (now line) ⌝ }
-    ensures { λ r. ⌜ r ≡ trailing (now (line .entry)) i ⌝ }
-{
-    let c = line[i];
-    if is_blank(c) {
+    if c == b'\t' {
         return true;
     }
-    if i + 1 == line.len() {
+    if last {
         return c == b'\r';
     }
     false
 }
 
-// Where a line ends without blanks and a carriage return.
+// The place after the last byte that is no blank.
 pub fn end(line: &[u8]) -> usize
     ensures { λ r. ⌜ (r ≡ endOf (now (line .entry)) (length (now (line .entry)))) × (r ≤ length (now (line .entry))) ⌝ }
 {
     let mut n = line.len();
     while 0 < n {
-        if is_trailing(line, n - 1) {
+        if is_blank(n == line.len(), line[n - 1]) {
             n -= 1;
         } else {
             return n;
         }
     }
     n
+}
+
+// The first place before `end` that holds no blank.
+pub fn start(line: &[u8], end: usize) -> usize
+    requires { ⌜ end ≤ length (now line) ⌝ }
+    ensures { λ r. ⌜ (slice r end (now (line .entry)) ≡ started (take end (now (line .entry)))) × (r ≤ end) ⌝ }
+{
+    let mut i = 0;
+    while i < end {
+        if is_blank(false, line[i]) {
+            i += 1;
+        } else {
+            return i;
+        }
+    }
+    i
 }

@@ -1,19 +1,6 @@
 // A literal, in decimal or by its name in the ROM's listing; 256 and more stand for none.
 ghost use mathlib.Core.Path.{_≡_};
-ghost use Prim.Native.Nat.{_≤_};
-ghost use Rattle.sheet.specs.Literals.{digitOf, decimalIn, ifNamed, laterOf, literalOf};
-
-fn digit(c: u8) -> u16
-    ensures { λ r. ⌜ (r ≡ digitOf c) × (r ≤ 256) ⌝ }
-{
-    if c < 48 {
-        return 256;
-    }
-    if c < 58 {
-        return (c - 48) as u16;
-    }
-    256
-}
+ghost use Rattle.sheet.specs.Literals.{decimalIn, ifNamed, laterOf, literalOf};
 
 fn decimal_in(text: &[u8]) -> u16
     ensures { λ r. ⌜ r ≡ decimalIn (now (text .entry)) ⌝ }
@@ -24,10 +11,11 @@ fn decimal_in(text: &[u8]) -> u16
     let mut v = 0;
     let mut i = 0;
     while i < text.len() {
-        if 255 < v {
+        let d = text::value_of(text[i]) as u16;
+        if 9 < d {
             return 256;
         }
-        v = 10 * v + digit(text[i]);
+        v = 10 * (v % 100) + d;
         i += 1;
     }
     v

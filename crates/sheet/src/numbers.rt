@@ -12,20 +12,18 @@ pub(crate) fn number_of(text: &[u8]) -> Line
     let mut v: u64 = 0;
     let mut i = 0;
     while i < text.len() {
-        let d = text::value_of(text[i]) as u64;
+        let c = text[i];
+        let d = text::value_of(c) as u64;
         if d < 16 {
-            if k == 10 {
-                return Line::Unreadable;
-            }
             k += 1;
-            v = 16 * v + d;
+            v = 16 * (v % 68719476736) + d;
             i += 1;
             continue;
         }
         if k % 2 != 0 {
             return Line::Unreadable;
         }
-        if is_blank(text[i]) {
+        if is_blank(false, c) {
             i += 1;
         } else {
             return Line::Unreadable;

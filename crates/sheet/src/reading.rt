@@ -34,7 +34,6 @@ pub fn line_of(line: &[u8]) -> Line
         return Line::Unreadable;
     }
     let end = blanks::end(line);
-    let text = &line[..end];
-    let start = blanks::start(text);
-    said(&text[start..])
+    let start = blanks::start(line, end);
+    said(&line[start..end])
 }

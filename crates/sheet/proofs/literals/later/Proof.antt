@@ -1,5 +1,5 @@
 -- `later` meets its contract: the names in the definition's order, the last first.
-use borrow.Author.Needs.{needs}
+use mathlib.Core.Path.{refl}
 use Rattle.sheet.specs.Literals.{laterOf}
 use Rattle.sheet.proofs.literals.later.Statement.{statement}
 use Rattle.sheet.proofs.literals.later.Tie as tie
@@ -10,14 +10,14 @@ later-spec =
     tie.close
     (tie.spec
     (λ c κs. tt)
-    (λ c. search needs)
+    (λ c. refl)
     (λ c κs. tt)
-    (λ c. search needs)
+    (λ c. refl)
     (λ c κs. tt)
-    (λ c. search needs)
+    (λ c. refl)
     (λ c κs. tt)
-    (λ c. search needs)
+    (λ c. refl)
     (λ c κs. tt)
-    (λ c. search needs)
+    (λ c. refl)
     (λ c κs. tt)
     (λ c. simp (c .if-named5 .ensures, c .before .before .if-named4 .ensures, c .before .before .before .before .if-named3 .ensures, c .before .before .before .before .before .before .if-named2 .ensures, c .before .before .before .before .before .before .before .before .if-named .ensures, c .before .before .before .before .before .before .before .before .before .before .decimal-in .ensures)))
