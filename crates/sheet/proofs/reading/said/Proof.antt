@@ -1,5 +1,4 @@
 -- `said` meets its contract: the tests are the definition's.
-use borrow.Author.Needs.{needs}
 use native.Mathlib.Omega.{arith}
 use borrow.Author.Tests.{lt-ltb, le-ltb, eq-eqb, ne-eqb}
 use Rattle.sheet.specs.Line.{said}
@@ -15,7 +14,7 @@ said-spec =
     (λ c. omega arith)
     (λ c. simp (ne-eqb _ _ (c .before .before .if1 .left), eq-eqb _ _ (c .if2 .taken)))
     (λ c κs. tt)
-    (λ c. search needs)
-    (λ c. simp (ne-eqb _ _ (c .before .before .before .before .if1 .left), ne-eqb _ _ (c .before .before .if2 .left), ← c .before .literal-of .ensures, lt-ltb _ _ (c .if3 .taken)))
+    (λ c. omega arith)
+    (λ c. simp (ne-eqb _ _ (c .before .before .before .before .if1 .left), ne-eqb _ _ (c .before .before .if2 .left), ← c .before .literal-of .ensures, lt-ltb (c .before .literal-of .result) 256 (omega arith)))
     (λ c κs. tt)
-    (λ c. simp (ne-eqb _ _ (c .before .before .before .before .before .if1 .left), ne-eqb _ _ (c .before .before .before .if2 .left), ← c .before .before .literal-of .ensures, le-ltb _ _ (c .before .if3 .left), c .number-of .ensures)))
+    (λ c. simp (ne-eqb _ _ (c .before .before .before .before .before .if1 .left), ne-eqb _ _ (c .before .before .before .if2 .left), ← c .before .before .literal-of .ensures, le-ltb (c .before .before .literal-of .result) 256 (omega arith), c .number-of .ensures)))
