@@ -11,7 +11,7 @@ use lib.Seq.{drop-cons}
 use borrow.Author.Tests.{lt-ltb, le-ltb, eq-eqb, ne-eqb}
 use Rattle.text.specs.Digits.{valueOf}
 
--- digits, after others of which the last three come to v
+-- digits, after others of which the last three come to v: there are no more
 unfoldable pub decimalFrom : ℕ → List ℕ → ℕ
 decimalFrom v [] = v
 decimalFrom v (c ∷ cs) = cond (ltb 9 (valueOf c)) 256 (decimalFrom (10 * (v % 100) + valueOf c) cs)
@@ -30,23 +30,25 @@ same (c ∷ cs) (n ∷ ns) = cond (eqb c n) (same cs ns) false
 unfoldable pub ifNamed : List ℕ → List ℕ → ℕ → ℕ → ℕ
 ifNamed s name l other = cond (same s name) l other
 
--- negate, int, duplicate, truncate, re-stack, and else in decimal
+-- the later five names, and else in decimal
 unfoldable pub laterOf : List ℕ → ℕ
 laterOf s =
-    ifNamed s (110 ∷ 101 ∷ 103 ∷ 97 ∷ 116 ∷ 101 ∷ []) 27
-    (ifNamed s (105 ∷ 110 ∷ 116 ∷ []) 39
-    (ifNamed s (100 ∷ 117 ∷ 112 ∷ 108 ∷ 105 ∷ 99 ∷ 97 ∷ 116 ∷ 101 ∷ []) 49
-    (ifNamed s (116 ∷ 114 ∷ 117 ∷ 110 ∷ 99 ∷ 97 ∷ 116 ∷ 101 ∷ []) 58
-    (ifNamed s (114 ∷ 101 ∷ 45 ∷ 115 ∷ 116 ∷ 97 ∷ 99 ∷ 107 ∷ []) 61 (decimalIn s)))))
+    ifNamed s (110 ∷ 101 ∷ 103 ∷ 97 ∷ 116 ∷ 101 ∷ []) 27  -- negate
+    (ifNamed s (105 ∷ 110 ∷ 116 ∷ []) 39  -- int
+    (ifNamed s (100 ∷ 117 ∷ 112 ∷ 108 ∷ 105 ∷ 99 ∷ 97 ∷ 116 ∷ 101 ∷ []) 49  -- duplicate
+    (ifNamed s (116 ∷ 114 ∷ 117 ∷ 110 ∷ 99 ∷ 97 ∷ 116 ∷ 101 ∷ []) 58  -- truncate
+    (ifNamed s (114 ∷ 101 ∷ 45 ∷ 115 ∷ 116 ∷ 97 ∷ 99 ∷ 107 ∷ []) 61  -- re-stack
+    (decimalIn s)))))
 
--- exchange, delete, subtract, divide, add, and else those
+-- the first five names, and else those
 unfoldable pub literalOf : List ℕ → ℕ
 literalOf s =
-    ifNamed s (101 ∷ 120 ∷ 99 ∷ 104 ∷ 97 ∷ 110 ∷ 103 ∷ 101 ∷ []) 1
-    (ifNamed s (100 ∷ 101 ∷ 108 ∷ 101 ∷ 116 ∷ 101 ∷ []) 2
-    (ifNamed s (115 ∷ 117 ∷ 98 ∷ 116 ∷ 114 ∷ 97 ∷ 99 ∷ 116 ∷ []) 3
-    (ifNamed s (100 ∷ 105 ∷ 118 ∷ 105 ∷ 100 ∷ 101 ∷ []) 5
-    (ifNamed s (97 ∷ 100 ∷ 100 ∷ []) 15 (laterOf s)))))
+    ifNamed s (101 ∷ 120 ∷ 99 ∷ 104 ∷ 97 ∷ 110 ∷ 103 ∷ 101 ∷ []) 1  -- exchange
+    (ifNamed s (100 ∷ 101 ∷ 108 ∷ 101 ∷ 116 ∷ 101 ∷ []) 2  -- delete
+    (ifNamed s (115 ∷ 117 ∷ 98 ∷ 116 ∷ 114 ∷ 97 ∷ 99 ∷ 116 ∷ []) 3  -- subtract
+    (ifNamed s (100 ∷ 105 ∷ 118 ∷ 105 ∷ 100 ∷ 101 ∷ []) 5  -- divide
+    (ifNamed s (97 ∷ 100 ∷ 100 ∷ []) 15  -- add
+    (laterOf s)))))
 
 -- a text of which i digits are read
 module _ (s : List ℕ) (i v : ℕ) where
