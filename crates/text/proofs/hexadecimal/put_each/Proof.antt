@@ -12,13 +12,6 @@ abbrev Inv-loop : tie.InvT-loop
 Inv-loop out₀ at before bytes next₀ i₀ out next i =
     (putsOf (out, next) (eachOf before (drop i bytes)) ≡ putsOf (out₀, at) (eachOf before bytes)) × (length out ≡ length out₀) × (i ≤ length bytes)
 
-loop-again : tie.Need-loop-again Inv-loop (λ out₀ at before bytes next₀ i₀ out next i. length bytes - i)
-loop-again c =
-    let l = c .before .before .before .before .before .before .before .before .before .before .loop in
-    let first = c .before .before .before .before .before .before .before .put-all in
-    let hex = c .before .before .put-hex in
-    (sym (each-next _ _ _ (l .i) (omega arith) (first .ensures) (hex .ensures)) ∙ l .inv .0, hex .kept .0 ∙ first .kept .0 ∙ l .inv .1, omega arith)
-
 pub put-each-spec : {M : Type 1} → statement M
 put-each-spec =
     tie.close
@@ -31,6 +24,10 @@ put-each-spec =
     (λ c κs. tt)
     (λ c. omega arith)
     (λ c. omega arith)
-    loop-again
+    (λ c.
+    let l = c .before .before .before .before .before .before .before .before .before .before .loop in
+    let first = c .before .before .before .before .before .before .before .put-all in
+    let hex = c .before .before .put-hex in
+    (sym (each-next _ _ _ (l .i) (omega arith) (first .ensures) (hex .ensures)) ∙ l .inv .0, hex .kept .0 ∙ first .kept .0 ∙ l .inv .1, omega arith))
     (λ c. c .before .loop .inv .1)
     (λ c. sym (each-done _ _ _ _ (c .loop-test .left)) ∙ c .before .loop .inv .0))

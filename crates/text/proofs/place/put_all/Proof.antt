@@ -11,12 +11,6 @@ abbrev Inv-loop : tie.InvT-loop
 Inv-loop out₀ at bytes next₀ i₀ out next i =
     (putsOf (out, next) (drop i bytes) ≡ putsOf (out₀, at) bytes) × (length out ≡ length out₀) × (i ≤ length bytes)
 
-loop-again : tie.Need-loop-again Inv-loop (λ out₀ at bytes next₀ i₀ out next i. length bytes - i)
-loop-again c =
-    let l = c .before .before .before .before .before .before .loop in
-    let put = c .before .before .put in
-    (sym (puts-next _ _ _ (l .i) (omega arith) (put .ensures)) ∙ l .inv .0, put .kept .0 ∙ l .inv .1, omega arith)
-
 pub put-all-spec : {M : Type 1} → statement M
 put-all-spec =
     tie.close
@@ -28,6 +22,9 @@ put-all-spec =
     (λ c κs. tt)
     (λ c. omega arith)
     (λ c. omega arith)
-    loop-again
+    (λ c.
+    let l = c .before .before .before .before .before .before .loop in
+    let put = c .before .before .put in
+    (sym (puts-next _ _ _ (l .i) (omega arith) (put .ensures)) ∙ l .inv .0, put .kept .0 ∙ l .inv .1, omega arith))
     (λ c. c .before .loop .inv .1)
     (λ c. sym (puts-done _ _ _ (c .loop-test .left)) ∙ c .before .loop .inv .0))
