@@ -1,6 +1,5 @@
 // The line that answers a step.
 ghost use mathlib.Core.Path.{_≡_};
-ghost use Prim.Native.Nat.{ℕ};
 ghost use Rattle.text.specs.Put.{putsOf};
 ghost use Rattle.sheet.specs.Answer.{topOf, answerOf, unreadableOf};
 

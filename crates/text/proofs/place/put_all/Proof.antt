@@ -1,6 +1,6 @@
 -- `put_all` meets its contract: the invariant is that what is left to put from here gives the whole.
 use mathlib.Core.Path.{_≡_, refl, sym, _∙_}
-use Prim.Native.Nat.{_-_, _≤_, _<_}
+use Prim.Native.Nat.{_-_, _≤_}
 use native.Mathlib.Omega.{arith}
 use lib.ListN.{length, drop}
 use Rattle.text.specs.Put.{putsOf, puts-done, puts-next}
