@@ -5,12 +5,13 @@ ghost use Rattle.sheet.specs.Literals.{decimalIn, ifNamed, laterOf, lite
 fn decimal_in(text: &[u8]) -> u16
     ensures { λ r. ⌜ r ≡ decimalIn (now (text .entry)) ⌝ }
 {
-    if 3 < text.len() {
+    let n = text.len();
+    if 3 < n {
         return 256;
     }
     let mut v = 0;
     let mut i = 0;
-    while i < text.len() {
+    while i < n {
         let d = text::value_of(text[i]) as u16;
         if 9 < d {
             return 256;
@@ -25,11 +26,12 @@ fn decimal_in(text: &[u8]) -> u16
 fn if_named(text: &[u8], name: &[u8], literal: u16, other: u16) -> u16
     ensures { λ r. ⌜ r ≡ ifNamed (now (text .entry)) (now (name .entry)) literal other ⌝ }
 {
-    if text.len() != name.len() {
+    let n = name.len();
+    if text.len() != n {
         return other;
     }
     let mut i = 0;
-    while i < name.len() {
+    while i < n {
         if text[i] != name[i] {
             return other;
         }

@@ -8,10 +8,11 @@ ghost use Rattle.sheet.specs.Numbers.{numberFrom};
 pub(crate) fn number_of(text: &[u8]) -> Line
     ensures { λ r. ⌜ r ≡ numberFrom 0 0 (now (text .entry)) ⌝ }
 {
+    let n = text.len();
     let mut k: u64 = 0;
     let mut v: u64 = 0;
     let mut i = 0;
-    while i < text.len() {
+    while i < n {
         let c = text[i];
         let d = text::value_of(c) as u64;
         if d < 16 {

@@ -10,7 +10,7 @@ use Rattle.sheet.proofs.literals.decimal_in.Statement.{statement}
 use Rattle.sheet.proofs.literals.decimal_in.Tie as tie
 
 abbrev Inv-loop : tie.InvT-loop
-Inv-loop text v₀ i₀ v i = (decimalFrom v (drop i text) ≡ decimalIn text) × (i ≤ length text)
+Inv-loop text n v₀ i₀ v i = (decimalFrom v (drop i text) ≡ decimalIn text) × (i ≤ length text)
 
 pub decimal-in-spec : {M : Type 1} → statement M
 unfolding decimalIn
@@ -18,7 +18,7 @@ decimal-in-spec =
     tie.close
     (tie.spec
     Inv-loop
-    (λ text v₀ i₀ v i. length text - i)
+    (λ text n v₀ i₀ v i. length text - i)
     (λ c. simp (lt-ltb _ _ (c .if1 .taken)))
     (λ c. (simp (le-ltb _ _ (c .if1 .left)), omega arith))
     (λ c. omega arith)

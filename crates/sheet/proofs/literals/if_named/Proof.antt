@@ -8,7 +8,7 @@ use Rattle.sheet.proofs.literals.if_named.Statement.{statement}
 use Rattle.sheet.proofs.literals.if_named.Tie as tie
 
 abbrev Inv-loop : tie.InvT-loop
-Inv-loop text name literal other i₀ i = (same (drop i text) (drop i name) ≡ same text name) × (i ≤ length name)
+Inv-loop text name literal other n i₀ i = (same (drop i text) (drop i name) ≡ same text name) × (i ≤ length name)
 
 pub if-named-spec : {M : Type 1} → statement M
 unfolding ifNamed
@@ -16,7 +16,7 @@ if-named-spec =
     tie.close
     (tie.spec
     Inv-loop
-    (λ text name literal other i₀ i. length name - i)
+    (λ text name literal other n i₀ i. length name - i)
     (λ c. simp (same-not (c .before .args .text .now) (c .before .args .name .now) (c .if1 .taken)))
     (λ c. (refl, omega arith))
     (λ c. omega arith)

@@ -9,14 +9,14 @@ use Rattle.sheet.proofs.numbers.number_of.Statement.{statement}
 use Rattle.sheet.proofs.numbers.number_of.Tie as tie
 
 abbrev Inv-loop : tie.InvT-loop
-Inv-loop text k₀ v₀ i₀ k v i = (numberFrom k v (drop i text) ≡ numberFrom 0 0 text) × (i ≤ length text) × (k ≤ i) × (v < 2 ^ 40)
+Inv-loop text n k₀ v₀ i₀ k v i = (numberFrom k v (drop i text) ≡ numberFrom 0 0 text) × (i ≤ length text) × (k ≤ i) × (v < 2 ^ 40)
 
 pub number-of-spec : {M : Type 1} → statement M
 number-of-spec =
     tie.close
     (tie.spec
     Inv-loop
-    (λ text k₀ v₀ i₀ k v i. length text - i)
+    (λ text n k₀ v₀ i₀ k v i. length text - i)
     (λ c. (refl, omega arith, omega arith, omega arith))
     (λ c. omega arith)
     (λ c κs. tt)
