@@ -25,9 +25,10 @@ pub fn is_blank(last: bool, c: u8) -> bool
 pub fn end(line: &[u8]) -> usize
     ensures { λ r. ⌜ (r ≡ endOf (now (line .entry)) (length (now (line .entry)))) × (r ≤ length (now (line .entry))) ⌝ }
 {
-    let mut n = line.len();
+    let all = line.len();
+    let mut n = all;
     while 0 < n {
-        if is_blank(n == line.len(), line[n - 1]) {
+        if is_blank(n == all, line[n - 1]) {
             n -= 1;
         } else {
             return n;

@@ -16,9 +16,10 @@ pub fn put_hex(out: &mut [u8], at: usize, byte: u8) -> usize
 pub fn put_each(out: &mut [u8], at: usize, before: &[u8], bytes: &[u8]) -> usize
     ensures { λ r. ⌜ (now (out .exit), r) ≡ putsOf (now (out .entry), at) (eachOf (now (before .entry)) (now (bytes .entry))) ⌝ }
 {
+    let n = bytes.len();
     let mut next = at;
     let mut i = 0;
-    while i < bytes.len() {
+    while i < n {
         let digits = put_all(out, next, before);
         next = put_hex(out, digits, bytes[i]);
         i += 1;

@@ -8,14 +8,14 @@ use Rattle.sheet.proofs.blanks.end.Statement.{statement}
 use Rattle.sheet.proofs.blanks.end.Tie as tie
 
 abbrev Inv-loop : tie.InvT-loop
-Inv-loop line n₀ n = (endOf line n ≡ endOf line (length line)) × (n ≤ length line)
+Inv-loop line all n₀ n = (endOf line n ≡ endOf line (length line)) × (n ≤ length line)
 
 pub end-spec : {M : Type 1} → statement M
 end-spec =
     tie.close
     (tie.spec
     Inv-loop
-    (λ line n₀ n. n)
+    (λ line all n₀ n. n)
     (λ c. (refl, omega arith))
     (λ c. omega arith)
     (λ c. omega arith)

@@ -9,7 +9,7 @@ use Rattle.text.proofs.hexadecimal.put_each.Statement.{statement}
 use Rattle.text.proofs.hexadecimal.put_each.Tie as tie
 
 abbrev Inv-loop : tie.InvT-loop
-Inv-loop out₀ at before bytes next₀ i₀ out next i =
+Inv-loop out₀ at before bytes n next₀ i₀ out next i =
     (putsOf (out, next) (eachOf before (drop i bytes)) ≡ putsOf (out₀, at) (eachOf before bytes)) × (length out ≡ length out₀) × (i ≤ length bytes)
 
 pub put-each-spec : {M : Type 1} → statement M
@@ -17,7 +17,7 @@ put-each-spec =
     tie.close
     (tie.spec
     Inv-loop
-    (λ out₀ at before bytes next₀ i₀ out next i. length bytes - i)
+    (λ out₀ at before bytes n next₀ i₀ out next i. length bytes - i)
     (λ c. (refl, refl, omega arith))
     (λ c κs. tt)
     (λ c. omega arith)

@@ -8,7 +8,7 @@ use Rattle.text.proofs.place.put_all.Statement.{statement}
 use Rattle.text.proofs.place.put_all.Tie as tie
 
 abbrev Inv-loop : tie.InvT-loop
-Inv-loop out₀ at bytes next₀ i₀ out next i =
+Inv-loop out₀ at bytes n next₀ i₀ out next i =
     (putsOf (out, next) (drop i bytes) ≡ putsOf (out₀, at) bytes) × (length out ≡ length out₀) × (i ≤ length bytes)
 
 pub put-all-spec : {M : Type 1} → statement M
@@ -16,7 +16,7 @@ put-all-spec =
     tie.close
     (tie.spec
     Inv-loop
-    (λ out₀ at bytes next₀ i₀ out next i. length bytes - i)
+    (λ out₀ at bytes n next₀ i₀ out next i. length bytes - i)
     (λ c. (refl, refl, omega arith))
     (λ c. omega arith)
     (λ c κs. tt)
