@@ -31,7 +31,7 @@ pub fn first(out: &[u8], at: usize) -> &[u8]
     ensures { λ r. ⌜ now r ≡ take at (now (out .entry)) ⌝ }
 {
     if out.len() <= at {
-        return &out[..];
+        return out;
     }
     &out[..at]
 }
