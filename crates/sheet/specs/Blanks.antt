@@ -27,7 +27,7 @@ started (c ∷ cs) = cond (blank false c) (started cs) (c ∷ cs)
 unfoldable pub textOf : List ℕ → List ℕ
 textOf s = started (take (endOf s (length s)) s)
 
--- the first n bytes
+-- where they end, a law a case
 module _ (s : List ℕ) (n : ℕ) where
   pub end-none : n ≡ 0 → endOf s n ≡ n
   unfolding endOf
@@ -48,7 +48,7 @@ part s i e h g =
     let it : drop i (take (i + (e - i)) s) ≡ take (e - i) (drop i s) = rw (take-add i (e - i) s) (drop-at (take i s) _ i (length-take-le i s (omega arith))) in
     sym (rw all at it)
 
--- the bytes from i to e
+-- where the bytes from i to e start, a law a case
 module _ (s : List ℕ) (i e : ℕ) where
   pub start-over : e ≤ i → i ≤ e → started (slice i e s) ≡ slice i e s
   unfolding started

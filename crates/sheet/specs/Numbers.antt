@@ -1,4 +1,5 @@
--- "A number of five bytes in hex (a push, spaces between bytes optional)": ten digits, and blanks before any two of them.
+-- "A number of five bytes in hex (a push, spaces between bytes optional)": ten digits; blanks may stand before each two
+-- and after the last.
 use Prim.Native.Nat.{ℕ, _+_, _*_, _/_, _%_, _^_, _<_, _≤_}
 use mathlib.Core.Path.{_≡_}
 use mathlib.Core.Bool.{true, false, cond}
@@ -14,16 +15,18 @@ use Rattle.sheet.specs.declared.meaning.Line.{Line}
 use Rattle.sheet.specs.declared.meaning.Line.the-variants.{Push, Unreadable}
 use Rattle.sheet.specs.Blanks.{blank}
 
+-- b1 is the first two of ten digits that come to v
 abbrev pub number : ℕ → Number
 number v = record { b1 = v / 2 ^ 32; word = v % 2 ^ 32 }
 
--- after k digits, of which the last ten come to v
+-- the line from here on, after k digits of which the last ten come to v
 unfoldable pub numberFrom : ℕ → ℕ → List ℕ → Line
 numberFrom k v [] = cond (eqb k 10) (Push (number v)) Unreadable
 numberFrom k v (c ∷ cs) =
     cond (ltb (valueOf c) 16) (numberFrom (k + 1) (16 * (v % 2 ^ 36) + valueOf c) cs)
     (cond (eqb (k % 2) 0) (cond (blank false c) (numberFrom k v cs) Unreadable) Unreadable)
 
+-- a law a case, for a text of which i bytes are read
 module _ (s : List ℕ) (i k v : ℕ) where
   pub number-done : length s ≤ i → k ≡ 10 → numberFrom k v (drop i s) ≡ Push (number v)
   unfolding numberFrom
