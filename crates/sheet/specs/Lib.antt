@@ -1,10 +1,5 @@
 pub mod Blanks
-pub mod BlankLaws
+pub mod Literals
 pub mod Numbers
-pub mod NumberLaws
-pub mod Names
-pub mod NameLaws
 pub mod Line
-pub mod LineLaws
 pub mod Answer
-pub mod AnswerLaws

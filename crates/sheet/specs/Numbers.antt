@@ -1,65 +1,54 @@
--- Literals and numbers as digits of a line.
-use Prim.Native.Nat.{ℕ, _+_, _*_, _≤_}
+-- "A number of five bytes in hex (a push, spaces between bytes optional)": ten digits; blanks may stand before each two
+-- and after the last.
+use Prim.Native.Nat.{ℕ, _+_, _*_, _/_, _%_, _^_, _<_, _≤_}
 use mathlib.Core.Path.{_≡_}
-use mathlib.Core.List.{List}
-use lib.Dec.{ltb}
-use lib.ListN.{length, getD}
-use Rattle.text.specs.Put.{pick}
+use mathlib.Core.Bool.{true, false, cond}
+use mathlib.Core.List.{List, [], _∷_}
+use native.Mathlib.Numerals.{add-one}
+use lib.Dec.{eqb, ltb}
+use lib.ListN.{length, drop, getD, drop-of-length-le}
+use lib.Seq.{drop-cons}
+use borrow.Author.Tests.{lt-ltb, le-ltb, eq-eqb, ne-eqb}
+use Rattle.number.specs.declared.Number.{Number}
 use Rattle.text.specs.Digits.{valueOf}
 use Rattle.sheet.specs.declared.meaning.Line.{Line}
-use Rattle.sheet.specs.declared.meaning.Line.the-variants.{Push, Literal, Unreadable}
-use Rattle.number.specs.Number.{bytes}
-use Rattle.sheet.specs.declared.numbers.Byte.{Byte}
-use Rattle.sheet.specs.Blanks.{pastOf, endsOf}
+use Rattle.sheet.specs.declared.meaning.Line.the-variants.{Push, Unreadable}
+use Rattle.sheet.specs.Blanks.{blank}
 
--- the value of the hexadecimal digit at a place; 16 where none stands there
-unfoldable pub digitAt : List ℕ → ℕ → ℕ
-digitAt s at = pick (ltb at (length s)) (valueOf (getD s at 0)) 16
+-- b1 is the first two of ten digits that come to v
+abbrev pub number : ℕ → Number
+number v = record { b1 = v / 2 ^ 32; word = v % 2 ^ 32 }
 
--- "a literal in decimal": one to three digits, at most 255
-unfoldable pub literalTo : List ℕ → ℕ → ℕ → Line
-literalTo s at v = pick (ltb 255 v) Unreadable (pick (endsOf s at) (Literal v) Unreadable)
+-- the line from here on, after k digits of which the last ten come to v
+unfoldable pub numberFrom : ℕ → ℕ → List ℕ → Line
+numberFrom k v [] = cond (eqb k 10) (Push (number v)) Unreadable
+numberFrom k v (c ∷ cs) =
+    cond (ltb (valueOf c) 16) (numberFrom (k + 1) (16 * (v % 2 ^ 36) + valueOf c) cs)
+    (cond (eqb (k % 2) 0) (cond (blank false c) (numberFrom k v cs) Unreadable) Unreadable)
 
-unfoldable pub literalAt : List ℕ → ℕ → Line
-literalAt s at =
-    let a = digitAt s at in
-    let b = digitAt s (at + 1) in
-    let c = digitAt s (at + 2) in
-    pick (ltb 9 a) Unreadable
-    (pick (ltb 9 b) (literalTo s (at + 1) a)
-    (pick (ltb 9 c) (literalTo s (at + 2) (10 * a + b))
-    (literalTo s (at + 3) (100 * a + 10 * b + c))))
+-- a law a case, for a text of which i bytes are read
+module _ (s : List ℕ) (i k v : ℕ) where
+  pub number-done : length s ≤ i → k ≡ 10 → numberFrom k v (drop i s) ≡ Push (number v)
+  unfolding numberFrom
+  number-done h g = rw (drop-of-length-le s h, g)
 
--- two hexadecimal digits after any blanks, and the place after them; 256 where they are not there
-unfoldable pub byteAt : List ℕ → ℕ → Byte
-byteAt s at =
-    let i = pastOf s at in
-    let high = digitAt s i in
-    let low = digitAt s (i + 1) in
-    pick (ltb 15 high) (record { value = 256; next = at })
-    (pick (ltb 15 low) (record { value = 256; next = at })
-    (record { value = 16 * high + low; next = i + 2 }))
+  pub number-short : length s ≤ i → (k ≡ 10 → ⊥) → numberFrom k v (drop i s) ≡ Unreadable
+  unfolding numberFrom
+  number-short h g = rw (drop-of-length-le s h) (simp (ne-eqb _ _ g))
 
--- `b` is the byte at a place, and ends within the line
-pub record Within (s : List ℕ) (at : ℕ) (b : Byte) : Type 0 where
-  pub same : b ≡ byteAt s at
-  pub inside : b .next ≤ length s
+  module _ (h : i < length s) (d : ℕ) (e : d ≡ valueOf (getD s i 0)) where
+    pub number-digit : d < 16 → numberFrom k v (drop i s) ≡ numberFrom (k + 1) (16 * (v % 2 ^ 36) + d) (drop (i + 1) s)
+    unfolding numberFrom
+    number-digit l = rw (drop-cons s i 0 h, ← e, add-one i) (simp (lt-ltb _ _ l))
 
-unfoldable pub fiveOf : ℕ → ℕ → ℕ → ℕ → ℕ → Line
-fiveOf b1 b2 b3 b4 b5 =
-    pick (ltb 255 b1) Unreadable
-    (pick (ltb 255 b2) Unreadable
-    (pick (ltb 255 b3) Unreadable
-    (pick (ltb 255 b4) Unreadable
-    (pick (ltb 255 b5) Unreadable
-    (Push (bytes b1 b2 b3 b4 b5))))))
+    pub number-odd : 16 ≤ d → (k % 2 ≡ 0 → ⊥) → numberFrom k v (drop i s) ≡ Unreadable
+    unfolding numberFrom
+    number-odd l g = rw (drop-cons s i 0 h, ← e) (simp (le-ltb _ _ l, ne-eqb _ _ g))
 
--- "a number of five bytes in hex (a push, spaces between bytes optional)"
-unfoldable pub numberAt : List ℕ → ℕ → Line
-numberAt s at =
-    let b1 = byteAt s at in
-    let b2 = byteAt s (b1 .next) in
-    let b3 = byteAt s (b2 .next) in
-    let b4 = byteAt s (b3 .next) in
-    let b5 = byteAt s (b4 .next) in
-    pick (endsOf s (b5 .next)) (fiveOf (b1 .value) (b2 .value) (b3 .value) (b4 .value) (b5 .value)) Unreadable
+    pub number-blank : 16 ≤ d → k % 2 ≡ 0 → blank false (getD s i 0) ≡ true → numberFrom k v (drop i s) ≡ numberFrom k v (drop (i + 1) s)
+    unfolding numberFrom
+    number-blank l g b = rw (drop-cons s i 0 h, ← e, add-one i) (simp (le-ltb _ _ l, eq-eqb _ _ g, b))
+
+    pub number-other : 16 ≤ d → k % 2 ≡ 0 → blank false (getD s i 0) ≡ false → numberFrom k v (drop i s) ≡ Unreadable
+    unfolding numberFrom
+    number-other l g b = rw (drop-cons s i 0 h, ← e) (simp (le-ltb _ _ l, eq-eqb _ _ g, b))

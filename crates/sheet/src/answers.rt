@@ -1,30 +1,16 @@
 // The line that answers a step.
 ghost use mathlib.Core.Path.{_≡_};
-ghost use Prim.Native.Nat.{ℕ};
 ghost use Rattle.text.specs.Put.{putsOf};
-ghost use Rattle.sheet.specs.Answer.{spacedOf, topOf, answerOf, unreadableOf};
+ghost use Rattle.sheet.specs.Answer.{topOf, answerOf, unreadableOf};
 
-// The bytes of a slice, a space before each.
-fn put_spaced(out: &mut [u8], at: usize, bytes: &[u8]) -> usize
-    ensures { λ r. ⌜ (now (out .exit), r) ≡ putsOf (now (out .entry), at) (spacedOf (now (bytes .entry))) ⌝ }
-{
-    let mut next = at;
-    let mut i = 0;
-    while i < bytes.len() {
-        let digits = text::put(out, next, b' ');
-        next = text::put_hex(out, digits, bytes[i]);
-        i += 1;
-    }
-    next
-}
-
+// The bytes of the top, a space before each.
 fn put_top(out: &mut [u8], at: usize, top: &[u8]) -> usize
     ensures { λ r. ⌜ (now (out .exit), r) ≡ putsOf (now (out .entry), at) (topOf (now (top .entry))) ⌝ }
 {
     if top.len() == 0 {
         return text::put_all(out, at, b" -");
     }
-    put_spaced(out, at, top)
+    text::put_each(out, at, b" ", top)
 }
 
 // The report, the depth and the top's bytes.

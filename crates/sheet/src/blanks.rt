@@ -1,34 +1,54 @@
-// Spaces and tabs.
+// The text of a line: where it starts and where it ends.
 ghost use mathlib.Core.Path.{_≡_};
-ghost use Rattle.sheet.specs.Blanks.{blank, pastOf, endsOf};
+ghost use mathlib.Core.Bool.{false};
+ghost use Prim.Native.Nat.{_≤_};
+ghost use lib.ListN.{length, take};
+ghost use lib.Seq.{slice};
+ghost use Rattle.sheet.specs.Blanks.{blank, started, endOf};
 
-fn is_blank(c: u8) -> bool
-    ensures { λ r. ⌜ r ≡ blank c ⌝ }
+pub fn is_blank(last: bool, c: u8) -> bool
+    ensures { λ r. ⌜ r ≡ blank last c ⌝ }
 {
     if c == b' ' {
         return true;
     }
-    c == b'\t'
+    if c == b'\t' {
+        return true;
+    }
+    if last {
+        return c == b'\r';
+    }
+    false
 }
 
-// The first place from `at` on that holds no blank.
-pub fn past(line: &[u8], at: usize) -> usize
-    ensures { λ r. ⌜ r ≡ pastOf (now (line .entry)) at ⌝ }
+// The place after the last byte that is no blank.
+pub fn end(line: &[u8]) -> usize
+    ensures { λ r. ⌜ (r ≡ endOf (now (line .entry)) (length (now (line .entry)))) × (r ≤ length (now (line .entry))) ⌝ }
 {
-    let mut i = at;
-    while i < line.len() {
-        if is_blank(line[i]) {
+    let all = line.len();
+    let mut n = all;
+    while 0 < n {
+        if is_blank(n == all, line[n - 1]) {
+            n -= 1;
+        } else {
+            return n;
+        }
+    }
+    n
+}
+
+// The first place before `end` that holds no blank.
+pub fn start(line: &[u8], end: usize) -> usize
+    requires { ⌜ end ≤ length (now line) ⌝ }
+    ensures { λ r. ⌜ (slice r end (now (line .entry)) ≡ started (take end (now (line .entry)))) × (r ≤ end) ⌝ }
+{
+    let mut i = 0;
+    while i < end {
+        if is_blank(false, line[i]) {
             i += 1;
         } else {
             return i;
         }
     }
     i
-}
-
-// Whether nothing but blanks stands from `at` on.
-pub fn ends(line: &[u8], at: usize) -> bool
-    ensures { λ r. ⌜ r ≡ endsOf (now (line .entry)) at ⌝ }
-{
-    line.len() <= past(line, at)
 }

@@ -1,10 +1,8 @@
 // A sheet of steps for the calculator, one to a line: what a line says, and the line that answers it.
 mod answers;
 mod blanks;
-mod digits;
 mod literals;
 mod meaning;
-mod names;
 mod numbers;
 mod reading;
 

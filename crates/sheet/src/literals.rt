@@ -1,41 +1,63 @@
-// A literal in decimal.
-use crate::blanks;
-use crate::digits::digit_at;
-use crate::meaning::Line;
+// A literal, in decimal or by its name in the ROM's listing; 256 and more stand for none.
 ghost use mathlib.Core.Path.{_≡_};
-ghost use Prim.Native.Nat.{_≤_};
-ghost use lib.ListN.{length};
-ghost use Rattle.sheet.specs.Numbers.{literalAt, literalTo};
+ghost use Rattle.sheet.specs.Literals.{decimalIn, ifNamed, laterOf, literalOf};
 
-// The literal v, whose digits end at a place.
-fn literal_to(line: &[u8], at: usize, v: u16) -> Line
-    ensures { λ r. ⌜ r ≡ literalTo (now (line .entry)) at v ⌝ }
+fn decimal_in(text: &[u8]) -> u16
+    ensures { λ r. ⌜ r ≡ decimalIn (now (text .entry)) ⌝ }
 {
-    if 255 < v {
-        return Line::Unreadable;
+    let n = text.len();
+    if 3 < n {
+        return 256;
     }
-    if blanks::ends(line, at) {
-        return Line::Literal(v as u8);
+    let mut v = 0;
+    let mut i = 0;
+    while i < n {
+        let d = text::value_of(text[i]) as u16;
+        if 9 < d {
+            return 256;
+        }
+        v = 10 * (v % 100) + d;
+        i += 1;
     }
-    Line::Unreadable
+    v
 }
 
-// One to three digits.
-pub(crate) fn literal_at(line: &[u8], at: usize) -> Line
-    requires { ⌜ at ≤ length (now line) ⌝ }
-    ensures { λ r. ⌜ r ≡ literalAt (now (line .entry)) at ⌝ }
+// The literal where the text is its name, and else what the text may be besides.
+fn if_named(text: &[u8], name: &[u8], literal: u16, other: u16) -> u16
+    ensures { λ r. ⌜ r ≡ ifNamed (now (text .entry)) (now (name .entry)) literal other ⌝ }
 {
-    let a = digit_at(line, at) as u16;
-    if 9 < a {
-        return Line::Unreadable;
+    let n = name.len();
+    if text.len() != n {
+        return other;
     }
-    let b = digit_at(line, at + 1) as u16;
-    if 9 < b {
-        return literal_to(line, at + 1, a);
+    let mut i = 0;
+    while i < n {
+        if text[i] != name[i] {
+            return other;
+        }
+        i += 1;
     }
-    let c = digit_at(line, at + 2) as u16;
-    if 9 < c {
-        return literal_to(line, at + 2, 10 * a + b);
-    }
-    literal_to(line, at + 3, 100 * a + 10 * b + c)
+    literal
+}
+
+fn later(text: &[u8]) -> u16
+    ensures { λ r. ⌜ r ≡ laterOf (now (text .entry)) ⌝ }
+{
+    let other = decimal_in(text);
+    let r61 = if_named(text, b"re-stack", 61, other);
+    let r58 = if_named(text, b"truncate", 58, r61);
+    let r49 = if_named(text, b"duplicate", 49, r58);
+    let r39 = if_named(text, b"int", 39, r49);
+    if_named(text, b"negate", 27, r39)
+}
+
+pub fn literal_of(text: &[u8]) -> u16
+    ensures { λ r. ⌜ r ≡ literalOf (now (text .entry)) ⌝ }
+{
+    let r27 = later(text);
+    let r15 = if_named(text, b"add", 15, r27);
+    let r5 = if_named(text, b"divide", 5, r15);
+    let r3 = if_named(text, b"subtract", 3, r5);
+    let r2 = if_named(text, b"delete", 2, r3);
+    if_named(text, b"exchange", 1, r2)
 }

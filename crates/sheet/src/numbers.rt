@@ -1,79 +1,40 @@
 // A number of five bytes in hexadecimal, blanks between the bytes or not.
-use crate::blanks;
-use crate::digits::digit_at;
+use crate::blanks::is_blank;
 use crate::meaning::Line;
 use number::Number;
 ghost use mathlib.Core.Path.{_≡_};
-ghost use Prim.Native.Nat.{_≤_};
-ghost use lib.ListN.{length};
-ghost use Rattle.sheet.specs.Numbers.{numberAt, fiveOf, Within};
+ghost use Rattle.sheet.specs.Numbers.{numberFrom};
 
-// A byte of the line and the place after it; a value of 256 stands for none.
-pub struct Byte {
-    pub value: u16,
-    pub next: usize,
-}
-
-fn byte_at(line: &[u8], at: usize) -> Byte
-    requires { ⌜ at ≤ length (now line) ⌝ }
-    ensures { λ r. ⌜ Within (now (line .entry)) at r ⌝ }
+pub(crate) fn number_of(text: &[u8]) -> Line
+    ensures { λ r. ⌜ r ≡ numberFrom 0 0 (now (text .entry)) ⌝ }
 {
-    let i = blanks::past(line, at);
-    let high = digit_at(line, i) as u16;
-    if 15 < high {
-        return Byte {
-            value: 256,
-            next: at,
-        };
+    let n = text.len();
+    let mut k: u64 = 0;
+    let mut v: u64 = 0;
+    let mut i = 0;
+    while i < n {
+        let c = text[i];
+        let d = text::value_of(c) as u64;
+        if d < 16 {
+            k += 1;
+            v = 16 * (v % 68719476736) + d;
+            i += 1;
+            continue;
+        }
+        if k % 2 != 0 {
+            return Line::Unreadable;
+        }
+        if is_blank(false, c) {
+            i += 1;
+        } else {
+            return Line::Unreadable;
+        }
     }
-    let low = digit_at(line, i + 1) as u16;
-    if 15 < low {
-        return Byte {
-            value: 256,
-            next: at,
-        };
-    }
-    Byte {
-        value: 16 * high + low,
-        next: i + 2,
-    }
-}
-
-pub(crate) fn number_at(line: &[u8], at: usize) -> Line
-    requires { ⌜ at ≤ length (now line) ⌝ }
-    ensures { λ r. ⌜ r ≡ numberAt (now (line .entry)) at ⌝ }
-{
-    let b1 = byte_at(line, at);
-    let b2 = byte_at(line, b1.next);
-    let b3 = byte_at(line, b2.next);
-    let b4 = byte_at(line, b3.next);
-    let b5 = byte_at(line, b4.next);
-    if blanks::ends(line, b5.next) {
-        return five(b1.value, b2.value, b3.value, b4.value, b5.value);
+    if k == 10 {
+        return Line::Push(Number {
+            word: (v % 4294967296) as u32,
+            b1: (v / 4294967296) as u8,
+        });
     }
     Line::Unreadable
-}
-
-fn five(b1: u16, b2: u16, b3: u16, b4: u16, b5: u16) -> Line
-    ensures { λ r. ⌜ r ≡ fiveOf b1 b2 b3 b4 b5 ⌝ }
-{
-    if 255 < b1 {
-        return Line::Unreadable;
-    }
-    if 255 < b2 {
-        return Line::Unreadable;
-    }
-    if 255 < b3 {
-        return Line::Unreadable;
-    }
-    if 255 < b4 {
-        return Line::Unreadable;
-    }
-    if 255 < b5 {
-        return Line::Unreadable;
-    }
-    Line::Push(Number {
-        word: number::joined(b2 as u8, b3 as u8, b4 as u8, b5 as u8),
-        b1: b1 as u8,
-    })
 }

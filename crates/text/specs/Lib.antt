@@ -1,4 +1,2 @@
 pub mod Put
-pub mod PutLaws
 pub mod Digits
-pub mod DigitLaws

@@ -1,22 +1,52 @@
 -- Text put into a buffer that the caller lends, from a place on. What finds no room is left out.
-use Prim.Native.Nat.{ℕ, _+_}
-use mathlib.Core.Bool.{Bool, true, false}
-use mathlib.Core.List.{List, [], _∷_}
+use Prim.Native.Nat.{ℕ, _+_, _<_, _≤_}
+use mathlib.Core.Path.{_≡_, refl, _∙_, ap}
+use mathlib.Core.Bool.{cond}
+use mathlib.Core.List.{List, [], _∷_, _++_}
+use native.Mathlib.Numerals.{add-one}
 use lib.Dec.{ltb}
-use lib.ListN.{length, set}
-
-abbrev pub pick : {A : Type 0} → Bool → A → A → A
-pick true x y = x
-pick false x y = y
+use lib.ListN.{length, set, drop, getD, drop-of-length-le}
+use lib.Seq.{drop-cons}
+use borrow.Author.Tests.{lt-ltb, le-ltb}
 
 -- the buffer, and the place after what was put last
 abbrev pub Text : Type 0
 Text = List ℕ × ℕ
 
 unfoldable pub putOf : Text → ℕ → Text
-putOf t b = pick (ltb (t .1) (length (t .0))) (set (t .0) (t .1) b, t .1 + 1) t
+putOf t b = cond (ltb (t .1) (length (t .0))) (set (t .0) (t .1) b, t .1 + 1) t
+
+pub put-room : (out : List ℕ) (at b : ℕ) → at < length out → (set out at b, at + 1) ≡ putOf (out, at) b
+unfolding putOf
+put-room out at b h = simp (lt-ltb _ _ h)
+
+pub put-full : (out : List ℕ) (at b : ℕ) → length out ≤ at → (out, at) ≡ putOf (out, at) b
+unfolding putOf
+put-full out at b h = simp (le-ltb _ _ h)
 
 -- the bytes of a list, one after the other
 unfoldable pub putsOf : Text → List ℕ → Text
 putsOf t [] = t
 putsOf t (b ∷ bs) = putsOf (putOf t b) bs
+
+-- one text after another is the two joined
+pub puts-join : (t : Text) (xs ys : List ℕ) → putsOf (putsOf t xs) ys ≡ putsOf t (xs ++ ys)
+unfolding putsOf
+puts-join t [] ys = refl
+puts-join t (x ∷ xs) ys = puts-join (putOf t x) xs ys
+
+pub puts-then : (t : Text) {u v : Text} (xs ys : List ℕ) → v ≡ putsOf t xs → u ≡ putsOf v ys → u ≡ putsOf t (xs ++ ys)
+puts-then t xs ys e f = f ∙ ap (λ (w : Text). putsOf w ys) e ∙ puts-join t xs ys
+
+pub put-last : (t : Text) {u : Text} (x : ℕ) → u ≡ putOf t x → u ≡ putsOf t (x ∷ [])
+unfolding putsOf
+put-last t x e = e
+
+-- a list of which i bytes are put
+pub puts-done : (t : Text) (bs : List ℕ) (i : ℕ) → length bs ≤ i → putsOf t (drop i bs) ≡ t
+unfolding putsOf
+puts-done t bs i h = rw (drop-of-length-le bs h)
+
+pub puts-next : (t u : Text) (bs : List ℕ) (i : ℕ) → i < length bs → u ≡ putOf t (getD bs i 0) → putsOf t (drop i bs) ≡ putsOf u (drop (i + 1) bs)
+unfolding putsOf
+puts-next t u bs i h e = rw (add-one, drop-cons bs i 0, e)

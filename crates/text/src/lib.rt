@@ -6,6 +6,7 @@ mod hexadecimal;
 mod place;
 
 pub use decimal::put_decimal;
+pub use hexadecimal::put_each;
 pub use hexadecimal::put_hex;
 pub use hexadecimal::put_hexes;
 pub use hexadecimal::value_of;

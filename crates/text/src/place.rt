@@ -16,9 +16,10 @@ pub fn put(out: &mut [u8], at: usize, byte: u8) -> usize
 pub fn put_all(out: &mut [u8], at: usize, bytes: &[u8]) -> usize
     ensures { λ r. ⌜ (now (out .exit), r) ≡ putsOf (now (out .entry), at) (now (bytes .entry)) ⌝ }
 {
+    let n = bytes.len();
     let mut next = at;
     let mut i = 0;
-    while i < bytes.len() {
+    while i < n {
         next = put(out, next, bytes[i]);
         i += 1;
     }
@@ -30,7 +31,7 @@ pub fn first(out: &[u8], at: usize) -> &[u8]
     ensures { λ r. ⌜ now r ≡ take at (now (out .entry)) ⌝ }
 {
     if out.len() <= at {
-        return &out[..];
+        return out;
     }
     &out[..at]
 }

@@ -4,13 +4,12 @@ use Rattle.sheet.specs.Blanks.{blank}
 use Rattle.sheet.proofs.blanks.is_blank.Statement.{statement}
 use Rattle.sheet.proofs.blanks.is_blank.Tie as tie
 
-returns : tie.Need-returns
-unfolding blank
-returns c = simp (eq-eqb _ _ (c .if1 .taken))
-
-returns-2 : tie.Need-returns-2
-unfolding blank
-returns-2 c = simp (ne-eqb _ _ (c .if1 .left))
-
 pub is-blank-spec : {M : Type 1} → statement M
-is-blank-spec = tie.close (tie.spec returns returns-2)
+unfolding blank
+is-blank-spec =
+    tie.close
+    (tie.spec
+    (λ c. simp (eq-eqb _ _ (c .if1 .taken)))
+    (λ c. simp (ne-eqb _ _ (c .before .if1 .left), eq-eqb _ _ (c .if2 .taken)))
+    (λ c. simp (ne-eqb _ _ (c .before .before .if1 .left), ne-eqb _ _ (c .before .if2 .left), c .if3 .taken))
+    (λ c. simp (ne-eqb _ _ (c .before .before .if1 .left), ne-eqb _ _ (c .before .if2 .left), c .if3 .left)))
