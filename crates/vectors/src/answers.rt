@@ -1,12 +1,16 @@
 // The answer to a case, as text.
-use crate::cells;
+use calculator::Cell;
 ghost use Prim.Native.Nat.{_≤_};
 ghost use lib.ListN.{length};
 
+// A number in decimal, and the byte that ends it.
+fn put_number(out: &mut [u8], at: usize, n: u64, end: u8) -> usize {
+    let next = text::put_decimal(out, at, n);
+    text::put(out, next, end)
+}
+
 // How many bytes there are up to the last that is not zero.
-fn length_without_zeros(bytes: &[u8]) -> usize
-    ensures { λ r. ⌜ r ≤ length (now (bytes .entry)) ⌝ }
-{
+fn length_without_zeros(bytes: &[u8]) -> usize {
     let mut n = bytes.len();
     while 0 < n {
         if bytes[n - 1] != 0 {
@@ -17,53 +21,50 @@ fn length_without_zeros(bytes: &[u8]) -> usize
     0
 }
 
-// `-` for no byte; the zeros at the end as `+N`.
 fn put_bytes(out: &mut [u8], at: usize, bytes: &[u8]) -> usize {
-    if bytes.len() == 0 {
-        return text::put(out, at, b'-');
-    }
+    let next = put_number(out, at, bytes.len() as u64, b':');
     let n = length_without_zeros(bytes);
-    let next = text::put_hexes(out, at, text::first(bytes, n));
-    if n == bytes.len() {
-        return next;
+    let end = text::put_hexes(out, next, text::first(bytes, n));
+    text::put(out, end, b' ')
+}
+
+// A cell's value is never a NaN. The test says so here.
+fn bits_of(x: f64) -> u64 {
+    if x == x {
+        return f64::to_bits(x);
     }
-    let digits = text::put(out, next, b'+');
-    text::put_decimal(out, digits, (bytes.len() - n) as u64)
+    0
 }
 
-// The view's bytes, zeros and all.
-fn put_view(out: &mut [u8], at: usize, view: &[u8]) -> usize {
-    if view.len() == 0 {
-        return text::put(out, at, b'-');
-    }
-    text::put_hexes(out, at, view)
-}
-
-// The report, before a position.
-pub fn put_report(out: &mut [u8], report: u8) -> usize {
-    let space = text::put_decimal(out, 0, report as u64);
-    text::put(out, space, b' ')
-}
-
-// The depth and the stack after the call.
-fn put_left(out: &mut [u8], at: usize, stack: &[u8], depth: usize) -> usize {
-    let first = text::put(out, at, b' ');
-    let space = text::put_decimal(out, first, depth as u64);
-    let second = text::put(out, space, b' ');
-    put_bytes(out, second, stack)
-}
-
-// What is seen of that: the view and the cell.
-fn put_seen(out: &mut [u8], at: usize, report: u8, stack: &[u8], depth: usize) -> usize {
-    let first = text::put(out, at, b' ');
-    let space = put_view(out, first, calculator::view(stack, depth));
-    let second = text::put(out, space, b' ');
-    cells::put_cell(out, second, calculator::cell(report, stack, depth))
-}
-
-// All that follows the position.
-pub fn put_rest(out: &mut [u8], at: usize, report: u8, stack: &[u8], depth: usize) -> usize {
-    let next = put_left(out, at, stack, depth);
-    let end = put_seen(out, next, report, stack, depth);
+// A letter, a number in hexadecimal and the line feed.
+fn put_shown(out: &mut [u8], at: usize, letter: u8, n: u64) -> usize {
+    let mut digits = [0u8; 16];
+    let count = io::hex(n, 1, &mut digits);
+    let next = text::put(out, at, letter);
+    let end = text::put_all(out, next, &digits[..count]);
     text::put(out, end, b'\n')
+}
+
+fn put_cell(out: &mut [u8], at: usize, cell: Cell) -> usize {
+    match cell {
+        Cell::Refused(report) => put_shown(out, at, b'R', report as u64),
+        Cell::Blank => put_shown(out, at, b'B', 0),
+        Cell::Odd => put_shown(out, at, b'O', 0),
+        Cell::Value(x) => put_shown(out, at, b'V', bits_of(x)),
+    }
+}
+
+pub(crate) fn put_answer(
+    out: &mut [u8],
+    report: u8,
+    position: usize,
+    stack: &[u8],
+    depth: usize,
+) -> usize {
+    let second = put_number(out, 0, report as u64, b' ');
+    let third = put_number(out, second, position as u64, b' ');
+    let fourth = put_number(out, third, depth as u64, b' ');
+    let fifth = put_bytes(out, fourth, stack);
+    let last = put_bytes(out, fifth, calculator::view(stack, depth));
+    put_cell(out, last, calculator::cell(report, stack, depth))
 }

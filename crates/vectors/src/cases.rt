@@ -1,17 +1,10 @@
 // A case: its fields, the call, and the answer.
-use crate::answers;
-use crate::fields;
-use calculator::Outcome;
+use crate::answers::put_answer;
+use crate::reading::bytes_at;
+use crate::reading::number_at;
 
 fn malformed(out: &mut [u8]) -> usize {
     text::put_all(out, 0, b"?\n")
-}
-
-// The answer to an operation or a push, which has no position.
-fn put_outcome(out: &mut [u8], done: Outcome, stack: &[u8]) -> usize {
-    let position = answers::put_report(out, done.report);
-    let next = text::put(out, position, b'-');
-    answers::put_rest(out, next, done.report, stack, done.depth)
 }
 
 fn operate(stack: &mut [u8], depth: usize, bytes: &[u8], out: &mut [u8]) -> usize {
@@ -19,19 +12,17 @@ fn operate(stack: &mut [u8], depth: usize, bytes: &[u8], out: &mut [u8]) -> usiz
         return malformed(out);
     }
     let done = calculator::operate(stack, depth, bytes[0]);
-    put_outcome(out, done, stack)
+    put_answer(out, done.report, 0, stack, done.depth)
 }
 
 fn push(stack: &mut [u8], depth: usize, bytes: &[u8], out: &mut [u8]) -> usize {
     let done = calculator::push(stack, depth, bytes);
-    put_outcome(out, done, stack)
+    put_answer(out, done.report, 0, stack, done.depth)
 }
 
 fn run(stack: &mut [u8], depth: usize, bytes: &[u8], out: &mut [u8]) -> usize {
     let done = calculator::run(stack, depth, bytes);
-    let position = answers::put_report(out, done.report);
-    let next = text::put_decimal(out, position, done.position as u64);
-    answers::put_rest(out, next, done.report, stack, done.depth)
+    put_answer(out, done.report, done.position, stack, done.depth)
 }
 
 fn call(kind: u8, stack: &mut [u8], depth: usize, bytes: &[u8], out: &mut [u8]) -> usize {
@@ -43,21 +34,22 @@ fn call(kind: u8, stack: &mut [u8], depth: usize, bytes: &[u8], out: &mut [u8]) 
     }
 }
 
-// The answer to a line that is a case, put into a buffer.
-pub fn answer(line: &[u8], stack: &mut [u8], bytes: &mut [u8], out: &mut [u8]) -> usize {
-    let case = fields::read(line, stack, bytes);
-    if !case.is_read {
+// The answer to a line of a kind, put into a buffer.
+pub(crate) fn answer(kind: u8, line: &[u8], out: &mut [u8]) -> usize {
+    let mut stack = [0u8; 17000];
+    let mut bytes = [0u8; 61000];
+    let depth = number_at(line, 1, b' ');
+    let held = bytes_at(line, depth.next, b' ', &mut stack);
+    let given = bytes_at(line, held.next, b'\n', &mut bytes);
+    if given.next != line.len() {
         return malformed(out);
     }
-    let n = case.held;
-    if stack.len() < n {
-        return malformed(out);
-    }
+    let n = held.value;
     call(
-        case.kind,
-        &mut stack[..n],
-        case.depth,
-        text::first(bytes, case.given),
+        kind,
+        &mut stack[0..n],
+        depth.value,
+        text::first(&bytes, given.value),
         out,
     )
 }
