@@ -55,7 +55,7 @@ pub fn answer_line(after: &After) -> String {
         Cell::Refused(report) => format!("R{report}"),
         Cell::Blank => "B0".to_string(),
         Cell::Odd => "O0".to_string(),
-        Cell::Value(bits) => format!("V{bits:x}"),
+        Cell::Value(bits) => format!("V{bits}"),
     };
     let (stack, view) = (counted(&after.stack), counted(view));
     format!(

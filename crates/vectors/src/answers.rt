@@ -1,7 +1,6 @@
 // The answer to a case, as text.
 use calculator::Cell;
-ghost use Prim.Native.Nat.{_≤_};
-ghost use lib.ListN.{length};
+use libc::STDOUT_FILENO;
 
 // A number in decimal, and the byte that ends it.
 fn put_number(out: &mut [u8], at: usize, n: u64, end: u8) -> usize {
@@ -9,22 +8,21 @@ fn put_number(out: &mut [u8], at: usize, n: u64, end: u8) -> usize {
     text::put(out, next, end)
 }
 
-// How many bytes there are up to the last that is not zero.
-fn length_without_zeros(bytes: &[u8]) -> usize {
+// The bytes up to the last that is not zero.
+fn without_zeros(bytes: &[u8]) -> &[u8] {
     let mut n = bytes.len();
     while 0 < n {
         if bytes[n - 1] != 0 {
-            return n;
+            break;
         }
         n -= 1;
     }
-    0
+    &bytes[0..n]
 }
 
 fn put_bytes(out: &mut [u8], at: usize, bytes: &[u8]) -> usize {
     let next = put_number(out, at, bytes.len() as u64, b':');
-    let n = length_without_zeros(bytes);
-    let end = text::put_hexes(out, next, text::first(bytes, n));
+    let end = text::put_hexes(out, next, without_zeros(bytes));
     text::put(out, end, b' ')
 }
 
@@ -36,35 +34,50 @@ fn bits_of(x: f64) -> u64 {
     0
 }
 
-// A letter, a number in hexadecimal and the line feed.
-fn put_shown(out: &mut [u8], at: usize, letter: u8, n: u64) -> usize {
-    let mut digits = [0u8; 16];
-    let count = io::hex(n, 1, &mut digits);
-    let next = text::put(out, at, letter);
-    let end = text::put_all(out, next, &digits[..count]);
-    text::put(out, end, b'\n')
-}
-
-fn put_cell(out: &mut [u8], at: usize, cell: Cell) -> usize {
+// A cell is a letter and a number.
+fn letter_of(cell: Cell) -> u8 {
     match cell {
-        Cell::Refused(report) => put_shown(out, at, b'R', report as u64),
-        Cell::Blank => put_shown(out, at, b'B', 0),
-        Cell::Odd => put_shown(out, at, b'O', 0),
-        Cell::Value(x) => put_shown(out, at, b'V', bits_of(x)),
+        Cell::Refused(_) => b'R',
+        Cell::Blank => b'B',
+        Cell::Odd => b'O',
+        Cell::Value(_) => b'V',
     }
 }
 
-pub(crate) fn put_answer(
-    out: &mut [u8],
-    report: u8,
-    position: usize,
-    stack: &[u8],
-    depth: usize,
-) -> usize {
+fn number_of(cell: Cell) -> u64 {
+    match cell {
+        Cell::Refused(report) => report as u64,
+        Cell::Blank => 0,
+        Cell::Odd => 0,
+        Cell::Value(x) => bits_of(x),
+    }
+}
+
+fn put_cell(out: &mut [u8], at: usize, cell: Cell) -> usize {
+    let next = text::put(out, at, letter_of(cell));
+    put_number(out, next, number_of(cell), b'\n')
+}
+
+fn put_outcome(out: &mut [u8], report: u8, position: usize, depth: usize) -> usize {
     let second = put_number(out, 0, report as u64, b' ');
     let third = put_number(out, second, position as u64, b' ');
-    let fourth = put_number(out, third, depth as u64, b' ');
-    let fifth = put_bytes(out, fourth, stack);
-    let last = put_bytes(out, fifth, calculator::view(stack, depth));
-    put_cell(out, last, calculator::cell(report, stack, depth))
+    put_number(out, third, depth as u64, b' ')
+}
+
+fn put_seen(out: &mut [u8], at: usize, report: u8, stack: &[u8], depth: usize) -> usize {
+    let second = put_bytes(out, at, stack);
+    let third = put_bytes(out, second, calculator::view(stack, depth));
+    put_cell(out, third, calculator::cell(report, stack, depth))
+}
+
+// A stack of 17,000 bytes and the rest of its answer fit the buffer.
+pub(crate) fn write_answer(report: u8, position: usize, stack: &[u8], depth: usize) {
+    let mut out = io::large_buffer();
+    let next = put_outcome(&mut out, report, position, depth);
+    let end = put_seen(&mut out, next, report, stack, depth);
+    io::write_all(STDOUT_FILENO, text::first(&out, end));
+}
+
+pub(crate) fn write_malformed() {
+    io::write_all(STDOUT_FILENO, b"?\n");
 }

@@ -1,55 +1,60 @@
 // A case: its fields, the call, and the answer.
-use crate::answers::put_answer;
-use crate::reading::bytes_at;
-use crate::reading::number_at;
+use crate::answers;
+use crate::reading;
 
-fn malformed(out: &mut [u8]) -> usize {
-    text::put_all(out, 0, b"?\n")
-}
-
-fn operate(stack: &mut [u8], depth: usize, bytes: &[u8], out: &mut [u8]) -> usize {
-    if bytes.len() != 1 {
-        return malformed(out);
+fn operate(stack: &mut [u8], depth: usize, bytes: &[u8]) {
+    if bytes.len() == 1 {
+        let done = calculator::operate(stack, depth, bytes[0]);
+        answers::write_answer(done.report, 0, stack, done.depth);
+    } else {
+        answers::write_malformed();
     }
-    let done = calculator::operate(stack, depth, bytes[0]);
-    put_answer(out, done.report, 0, stack, done.depth)
 }
 
-fn push(stack: &mut [u8], depth: usize, bytes: &[u8], out: &mut [u8]) -> usize {
+fn push(stack: &mut [u8], depth: usize, bytes: &[u8]) {
     let done = calculator::push(stack, depth, bytes);
-    put_answer(out, done.report, 0, stack, done.depth)
+    answers::write_answer(done.report, 0, stack, done.depth);
 }
 
-fn run(stack: &mut [u8], depth: usize, bytes: &[u8], out: &mut [u8]) -> usize {
+fn run(stack: &mut [u8], depth: usize, bytes: &[u8]) {
     let done = calculator::run(stack, depth, bytes);
-    put_answer(out, done.report, done.position, stack, done.depth)
+    answers::write_answer(done.report, done.position, stack, done.depth);
 }
 
-fn call(kind: u8, stack: &mut [u8], depth: usize, bytes: &[u8], out: &mut [u8]) -> usize {
+fn call(kind: u8, stack: &mut [u8], depth: usize, bytes: &[u8]) {
     match kind {
-        b'o' => operate(stack, depth, bytes, out),
-        b'p' => push(stack, depth, bytes, out),
-        b'r' => run(stack, depth, bytes, out),
-        _ => malformed(out),
+        b'o' => operate(stack, depth, bytes),
+        b'p' => push(stack, depth, bytes),
+        b'r' => run(stack, depth, bytes),
+        _ => answers::write_malformed(),
     }
 }
 
-// The answer to a line of a kind, put into a buffer.
-pub(crate) fn answer(kind: u8, line: &[u8], out: &mut [u8]) -> usize {
-    let mut stack = [0u8; 17000];
-    let mut bytes = [0u8; 61000];
-    let depth = number_at(line, 1, b' ');
-    let held = bytes_at(line, depth.next, b' ', &mut stack);
-    let given = bytes_at(line, held.next, b'\n', &mut bytes);
-    if given.next != line.len() {
-        return malformed(out);
+// The kind of a case whose fields were read up to a place: none, 0, where that is not the line's end.
+fn kind_of(line: &[u8], end: usize) -> u8 {
+    if end != line.len() {
+        return 0;
     }
+    if end == 0 {
+        return 0;
+    }
+    line[0]
+}
+
+// A case whose depth and stack were read up to a place.
+fn answer_on(line: &[u8], at: usize, stack: &mut [u8], depth: usize) {
+    let mut bytes = [0u8; 61000];
+    let given = reading::bytes_at(line, at, b'\n', &mut bytes);
+    let kind = kind_of(line, given.next);
+    call(kind, stack, depth, text::first(&bytes, given.value));
+}
+
+// A line that is no comment. The buffers are as long as the longest stack and list of literals that a case may have: each is over a
+// limit of the calculator's.
+pub(crate) fn answer(line: &[u8]) {
+    let mut stack = [0u8; 17000];
+    let depth = reading::number_at(line, 1, b' ');
+    let held = reading::bytes_at(line, depth.next, b' ', &mut stack);
     let n = held.value;
-    call(
-        kind,
-        &mut stack[0..n],
-        depth.value,
-        text::first(&bytes, given.value),
-        out,
-    )
+    answer_on(line, held.next, &mut stack[0..n], depth.value);
 }

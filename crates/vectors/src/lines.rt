@@ -1,19 +1,15 @@
 // Lines out of the parts of the input. What is kept between parts is the line so far, with how many bytes of it are held.
 use crate::cases;
-use libc::STDOUT_FILENO;
 
-// A whole line with its line feed, which one that is too long has lost.
+// A whole line with its line feed, which one that is too long has lost: then its last field has no end.
 fn end_line(line: &[u8]) {
     if line.len() < 2 {
         return;
     }
-    let kind = line[0];
-    if kind == b'#' {
+    if line[0] == b'#' {
         return;
     }
-    let mut out = io::large_buffer();
-    let n = cases::answer(kind, line, &mut out);
-    io::write_all(STDOUT_FILENO, text::first(&out, n));
+    cases::answer(line);
 }
 
 pub(crate) fn take_byte(line: &mut [u8; 4096], held: usize, byte: u8) -> usize {

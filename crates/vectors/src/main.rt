@@ -4,8 +4,8 @@
 // An answer is REPORT POSITION DEPTH STACK VIEW CELL; the position is a run's, and else 0. A line that is no case is answered by `?`;
 // an empty one and a comment (`#`) have no answer.
 //
-// Bytes are LENGTH:HEX, where the digits may leave out zeros at the end: `5:8240` is 82 40 00 00 00. A cell is `R` and a report, `B`
-// blank, `O` odd, or `V` and a double's bits.
+// Bytes are LENGTH:HEX, where zeros at the end may be left out: `5:8240` is 82 40 00 00 00. A cell is `R` and a report, `B0` blank, `O0`
+// odd, or `V` and a double's bits as a number.
 mod answers;
 mod cases;
 mod lines;

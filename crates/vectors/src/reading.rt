@@ -11,28 +11,16 @@ pub(crate) struct Field {
     pub(crate) next: usize,
 }
 
-// A number with one digit more, that of the byte at a place.
-fn with_digit(value: usize, byte: u8, at: usize) -> Field
+// The place after the byte that ended some digits, if it is the right one and they were whole.
+fn past(at: usize, byte: u8, end: u8, whole: bool) -> usize
     requires { ⌜ at < 18446744073709551615 ⌝ }
-    ensures { λ r. ⌜ at < r .next ⌝ }
 {
-    let d = text::value_of(byte) as usize;
-    if 9 < d {
-        return Field {
-            value: 0,
-            next: LOST,
-        };
+    if byte == end {
+        if whole {
+            return at + 1;
+        }
     }
-    if (18446744073709551615 - d) / 10 < value {
-        return Field {
-            value: 0,
-            next: LOST,
-        };
-    }
-    Field {
-        value: 10 * value + d,
-        next: at + 1,
-    }
+    LOST
 }
 
 // A number in decimal, of one digit at least.
@@ -40,15 +28,19 @@ pub(crate) fn number_at(line: &[u8], at: usize, end: u8) -> Field {
     let mut value = 0;
     let mut i = at;
     while i < line.len() {
-        if line[i] == end {
-            if i == at {
-                break;
-            }
-            return Field { value, next: i + 1 };
+        let c = line[i];
+        let d = text::value_of(c) as usize;
+        if 9 < d {
+            return Field {
+                value,
+                next: past(i, c, end, at < i),
+            };
         }
-        let more = with_digit(value, line[i], i);
-        value = more.value;
-        i = more.next;
+        if (18446744073709551615 - d) / 10 < value {
+            break;
+        }
+        value = 10 * value + d;
+        i += 1;
     }
     Field {
         value: 0,
@@ -56,40 +48,24 @@ pub(crate) fn number_at(line: &[u8], at: usize, end: u8) -> Field {
     }
 }
 
-// The byte of two hexadecimal digits; 256 where they are none.
-fn byte_of(high: u8, low: u8) -> u16 {
-    let h = text::value_of(high) as u16;
-    let l = text::value_of(low) as u16;
-    if 15 < h {
-        return 256;
-    }
-    if 15 < l {
-        return 256;
-    }
-    16 * h + l
-}
-
-// Pairs of hexadecimal digits, as bytes into a buffer.
-fn hex_at(line: &[u8], at: usize, end: u8, out: &mut [u8]) -> usize {
-    let mut n = 0;
+// Pairs of hexadecimal digits, as the first of at most n bytes. The buffer has zeros before.
+fn hex_at(line: &[u8], at: usize, end: u8, out: &mut [u8], n: usize) -> usize
+    requires { ⌜ n ≤ length (now out) ⌝ }
+{
     let mut i = at;
     while i < line.len() {
-        if line[i] == end {
-            return i + 1;
+        let c = line[i];
+        let d = text::value_of(c);
+        let digits = i - at;
+        if 15 < d {
+            return past(i, c, end, digits % 2 == 0);
         }
-        if line.len() - i < 2 {
-            return LOST;
+        let k = digits / 2;
+        if n <= k {
+            break;
         }
-        let b = byte_of(line[i], line[i + 1]);
-        if 255 < b {
-            return LOST;
-        }
-        if out.len() <= n {
-            return LOST;
-        }
-        out[n] = b as u8;
-        n += 1;
-        i += 2;
+        out[k] = out[k] % 16 * 16 + d;
+        i += 1;
     }
     LOST
 }
@@ -106,6 +82,8 @@ pub(crate) fn bytes_at(line: &[u8], at: usize, end: u8, out: &mut [u8]) -> Field
             next: LOST,
         };
     }
-    let next = hex_at(line, count.next, end, &mut out[0..n]);
-    Field { value: n, next }
+    Field {
+        value: n,
+        next: hex_at(line, count.next, end, out, n),
+    }
 }
