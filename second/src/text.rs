@@ -7,19 +7,6 @@ pub fn hex(bytes: &[u8]) -> String {
     bytes.iter().map(|b| format!("{b:02X}")).collect()
 }
 
-/// Hex up to the last byte that is not zero, then `+N` for N zeros; `-` for nothing.
-pub fn field(bytes: &[u8]) -> String {
-    if bytes.is_empty() {
-        return "-".to_string();
-    }
-    let written = bytes.iter().rposition(|&b| b != 0).map_or(0, |i| i + 1);
-    let mut text = hex(&bytes[..written]);
-    if written < bytes.len() {
-        text.push_str(&format!("+{}", bytes.len() - written));
-    }
-    text
-}
-
 /// `LENGTH:HEX` of a case, with zeros at the end left out only where they are many: it reads better.
 fn given(bytes: &[u8]) -> String {
     let tail = bytes.iter().rev().take_while(|&&b| b == 0).count();
@@ -31,7 +18,7 @@ fn given(bytes: &[u8]) -> String {
 }
 
 /// `LENGTH:HEX` of an answer, with no zeros at the end.
-fn counted(bytes: &[u8]) -> String {
+pub fn counted(bytes: &[u8]) -> String {
     let written = bytes.iter().rposition(|&b| b != 0).map_or(0, |i| i + 1);
     format!("{}:{}", bytes.len(), hex(&bytes[..written]))
 }
