@@ -11,21 +11,17 @@ fn operate(stack: &mut [u8], depth: usize, bytes: &[u8]) {
     }
 }
 
-fn push(stack: &mut [u8], depth: usize, bytes: &[u8]) {
-    let done = calculator::push(stack, depth, bytes);
-    answers::write_answer(done.report, 0, stack, done.depth);
-}
-
-fn run(stack: &mut [u8], depth: usize, bytes: &[u8]) {
-    let done = calculator::run(stack, depth, bytes);
-    answers::write_answer(done.report, done.position, stack, done.depth);
-}
-
 fn call(kind: u8, stack: &mut [u8], depth: usize, bytes: &[u8]) {
     match kind {
         b'o' => operate(stack, depth, bytes),
-        b'p' => push(stack, depth, bytes),
-        b'r' => run(stack, depth, bytes),
+        b'p' => {
+            let done = calculator::push(stack, depth, bytes);
+            answers::write_answer(done.report, 0, stack, done.depth);
+        }
+        b'r' => {
+            let done = calculator::run(stack, depth, bytes);
+            answers::write_answer(done.report, done.position, stack, done.depth);
+        }
         _ => answers::write_malformed(),
     }
 }
