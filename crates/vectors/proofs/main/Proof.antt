@@ -10,6 +10,6 @@ pub main-spec : {M : Type 1} → statement M
 main-spec =
     tie.close
     (tie.spec (λ line₀ input₀ held₀ turns₀ line input held turns. length input ≡ 4096) (λ line₀ input₀ held₀ turns₀ line input held turns. turns)
-    (λ c κs. tt) (λ c κs. tt) (λ c. search needs) (λ c. omega arith) (λ c. search needs) (λ c κs. search needs)
-    (λ c. search needs) (λ c κs. search needs) (λ c. search needs) (λ c. search needs) (λ c κs. search needs)
-    (λ c. omega arith) (λ c. search needs) (λ c κs. search needs) (λ c. tt) (λ c. tt))
+    (λ c κs. tt) (λ c κs. tt) (λ c. omega arith) (λ c. omega arith) (λ c. omega arith) (λ c κs. tt)
+    (λ c. omega arith) (λ c κs. tt) (λ c. search needs) (λ c. search needs) (λ c κs. tt)
+    (λ c. omega arith) (λ c. omega arith) (λ c κs. tt) (λ c. tt) (λ c. tt))
