@@ -1,69 +1,83 @@
 // The answer to a case, as text.
-use crate::cells;
-ghost use Prim.Native.Nat.{_≤_};
-ghost use lib.ListN.{length};
+use calculator::Cell;
+use libc::STDOUT_FILENO;
 
-// How many bytes there are up to the last that is not zero.
-fn length_without_zeros(bytes: &[u8]) -> usize
-    ensures { λ r. ⌜ r ≤ length (now (bytes .entry)) ⌝ }
-{
+// A number in decimal, and the byte that ends it.
+fn put_number(out: &mut [u8], at: usize, n: u64, end: u8) -> usize {
+    let next = text::put_decimal(out, at, n);
+    text::put(out, next, end)
+}
+
+// The bytes up to the last that is not zero.
+fn without_zeros(bytes: &[u8]) -> &[u8] {
     let mut n = bytes.len();
     while 0 < n {
         if bytes[n - 1] != 0 {
-            return n;
+            break;
         }
         n -= 1;
+    }
+    &bytes[0..n]
+}
+
+fn put_bytes(out: &mut [u8], at: usize, bytes: &[u8]) -> usize {
+    let next = put_number(out, at, bytes.len() as u64, b':');
+    let end = text::put_hexes(out, next, without_zeros(bytes));
+    text::put(out, end, b' ')
+}
+
+// A cell's value is never a NaN. The test says so here.
+fn bits_of(x: f64) -> u64 {
+    if x == x {
+        return f64::to_bits(x);
     }
     0
 }
 
-// `-` for no byte; the zeros at the end as `+N`.
-fn put_bytes(out: &mut [u8], at: usize, bytes: &[u8]) -> usize {
-    if bytes.len() == 0 {
-        return text::put(out, at, b'-');
+// A cell is a letter and a number.
+fn letter_of(cell: Cell) -> u8 {
+    match cell {
+        Cell::Refused(_) => b'R',
+        Cell::Blank => b'B',
+        Cell::Odd => b'O',
+        Cell::Value(_) => b'V',
     }
-    let n = length_without_zeros(bytes);
-    let next = text::put_hexes(out, at, text::first(bytes, n));
-    if n == bytes.len() {
-        return next;
+}
+
+fn number_of(cell: Cell) -> u64 {
+    match cell {
+        Cell::Refused(report) => report as u64,
+        Cell::Blank => 0,
+        Cell::Odd => 0,
+        Cell::Value(x) => bits_of(x),
     }
-    let digits = text::put(out, next, b'+');
-    text::put_decimal(out, digits, (bytes.len() - n) as u64)
 }
 
-// The view's bytes, zeros and all.
-fn put_view(out: &mut [u8], at: usize, view: &[u8]) -> usize {
-    if view.len() == 0 {
-        return text::put(out, at, b'-');
-    }
-    text::put_hexes(out, at, view)
+fn put_cell(out: &mut [u8], at: usize, cell: Cell) -> usize {
+    let next = text::put(out, at, letter_of(cell));
+    put_number(out, next, number_of(cell), b'\n')
 }
 
-// The report, before a position.
-pub fn put_report(out: &mut [u8], report: u8) -> usize {
-    let space = text::put_decimal(out, 0, report as u64);
-    text::put(out, space, b' ')
+fn put_outcome(out: &mut [u8], report: u8, position: usize, depth: usize) -> usize {
+    let second = put_number(out, 0, report as u64, b' ');
+    let third = put_number(out, second, position as u64, b' ');
+    put_number(out, third, depth as u64, b' ')
 }
 
-// The depth and the stack after the call.
-fn put_left(out: &mut [u8], at: usize, stack: &[u8], depth: usize) -> usize {
-    let first = text::put(out, at, b' ');
-    let space = text::put_decimal(out, first, depth as u64);
-    let second = text::put(out, space, b' ');
-    put_bytes(out, second, stack)
-}
-
-// What is seen of that: the view and the cell.
 fn put_seen(out: &mut [u8], at: usize, report: u8, stack: &[u8], depth: usize) -> usize {
-    let first = text::put(out, at, b' ');
-    let space = put_view(out, first, calculator::view(stack, depth));
-    let second = text::put(out, space, b' ');
-    cells::put_cell(out, second, calculator::cell(report, stack, depth))
+    let second = put_bytes(out, at, stack);
+    let third = put_bytes(out, second, calculator::view(stack, depth));
+    put_cell(out, third, calculator::cell(report, stack, depth))
 }
 
-// All that follows the position.
-pub fn put_rest(out: &mut [u8], at: usize, report: u8, stack: &[u8], depth: usize) -> usize {
-    let next = put_left(out, at, stack, depth);
-    let end = put_seen(out, next, report, stack, depth);
-    text::put(out, end, b'\n')
+// A stack of 17,000 bytes and the rest of its answer fit the buffer.
+pub(crate) fn write_answer(report: u8, position: usize, stack: &[u8], depth: usize) {
+    let mut out = io::large_buffer();
+    let next = put_outcome(&mut out, report, position, depth);
+    let end = put_seen(&mut out, next, report, stack, depth);
+    io::write_all(STDOUT_FILENO, text::first(&out, end));
+}
+
+pub(crate) fn write_malformed() {
+    io::write_all(STDOUT_FILENO, b"?\n");
 }

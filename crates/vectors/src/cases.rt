@@ -1,63 +1,56 @@
 // A case: its fields, the call, and the answer.
 use crate::answers;
-use crate::fields;
-use calculator::Outcome;
+use crate::reading;
 
-fn malformed(out: &mut [u8]) -> usize {
-    text::put_all(out, 0, b"?\n")
-}
-
-// The answer to an operation or a push, which has no position.
-fn put_outcome(out: &mut [u8], done: Outcome, stack: &[u8]) -> usize {
-    let position = answers::put_report(out, done.report);
-    let next = text::put(out, position, b'-');
-    answers::put_rest(out, next, done.report, stack, done.depth)
-}
-
-fn operate(stack: &mut [u8], depth: usize, bytes: &[u8], out: &mut [u8]) -> usize {
-    if bytes.len() != 1 {
-        return malformed(out);
+fn operate(stack: &mut [u8], depth: usize, bytes: &[u8]) {
+    if bytes.len() == 1 {
+        let done = calculator::operate(stack, depth, bytes[0]);
+        answers::write_answer(done.report, 0, stack, done.depth);
+    } else {
+        answers::write_malformed();
     }
-    let done = calculator::operate(stack, depth, bytes[0]);
-    put_outcome(out, done, stack)
 }
 
-fn push(stack: &mut [u8], depth: usize, bytes: &[u8], out: &mut [u8]) -> usize {
-    let done = calculator::push(stack, depth, bytes);
-    put_outcome(out, done, stack)
-}
-
-fn run(stack: &mut [u8], depth: usize, bytes: &[u8], out: &mut [u8]) -> usize {
-    let done = calculator::run(stack, depth, bytes);
-    let position = answers::put_report(out, done.report);
-    let next = text::put_decimal(out, position, done.position as u64);
-    answers::put_rest(out, next, done.report, stack, done.depth)
-}
-
-fn call(kind: u8, stack: &mut [u8], depth: usize, bytes: &[u8], out: &mut [u8]) -> usize {
+fn call(kind: u8, stack: &mut [u8], depth: usize, bytes: &[u8]) {
     match kind {
-        b'o' => operate(stack, depth, bytes, out),
-        b'p' => push(stack, depth, bytes, out),
-        b'r' => run(stack, depth, bytes, out),
-        _ => malformed(out),
+        b'o' => operate(stack, depth, bytes),
+        b'p' => {
+            let done = calculator::push(stack, depth, bytes);
+            answers::write_answer(done.report, 0, stack, done.depth);
+        }
+        b'r' => {
+            let done = calculator::run(stack, depth, bytes);
+            answers::write_answer(done.report, done.position, stack, done.depth);
+        }
+        _ => answers::write_malformed(),
     }
 }
 
-// The answer to a line that is a case, put into a buffer.
-pub fn answer(line: &[u8], stack: &mut [u8], bytes: &mut [u8], out: &mut [u8]) -> usize {
-    let case = fields::read(line, stack, bytes);
-    if !case.is_read {
-        return malformed(out);
+// The kind of a case whose fields were read up to a place: none, 0, where that is not the line's end.
+fn kind_of(line: &[u8], end: usize) -> u8 {
+    if end != line.len() {
+        return 0;
     }
-    let n = case.held;
-    if stack.len() < n {
-        return malformed(out);
+    if end == 0 {
+        return 0;
     }
-    call(
-        case.kind,
-        &mut stack[..n],
-        case.depth,
-        text::first(bytes, case.given),
-        out,
-    )
+    line[0]
+}
+
+// A case whose depth and stack were read up to a place.
+fn answer_on(line: &[u8], at: usize, stack: &mut [u8], depth: usize) {
+    let mut bytes = [0u8; 61000];
+    let given = reading::bytes_at(line, at, b'\n', &mut bytes);
+    let kind = kind_of(line, given.next);
+    call(kind, stack, depth, text::first(&bytes, given.value));
+}
+
+// A line that is no comment. The buffers are as long as the longest stack and list of literals that a case may have: each is over a
+// limit of the calculator's.
+pub(crate) fn answer(line: &[u8]) {
+    let mut stack = [0u8; 17000];
+    let depth = reading::number_at(line, 1, b' ');
+    let held = reading::bytes_at(line, depth.next, b' ', &mut stack);
+    let n = held.value;
+    answer_on(line, held.next, &mut stack[0..n], depth.value);
 }

@@ -2,7 +2,7 @@
 
 use crate::draw;
 use crate::rng::Rng;
-use crate::text::field;
+use crate::text::counted;
 use std::fmt;
 
 /// The bytes are boxed: an allocation of exactly their length, where valgrind shows a read
@@ -107,11 +107,11 @@ fn list(rng: &mut Rng) -> Box<[u8]> {
 
 impl fmt::Display for Given {
     fn fmt(&self, f: &mut fmt::Formatter) -> fmt::Result {
-        let stack = field(&self.stack);
+        let stack = counted(&self.stack);
         match &self.call {
             Call::Operate(literal) => write!(f, "operate, literal {literal}")?,
-            Call::Push(number) => write!(f, "push of {}", field(number))?,
-            Call::Run(literals) => write!(f, "run of {}", field(literals))?,
+            Call::Push(number) => write!(f, "push of {}", counted(number))?,
+            Call::Run(literals) => write!(f, "run of {}", counted(literals))?,
             Call::View => write!(f, "view")?,
             Call::Cell(report) => write!(f, "cell, report {report}")?,
         }

@@ -1,7 +1,7 @@
 //! What can be seen of a call: by the reference as it should be, and of the C interface.
 
 use super::given::{Call, Given};
-use crate::text::field;
+use crate::text::counted;
 use crate::{native, reference, Cell};
 use std::fmt;
 
@@ -109,7 +109,7 @@ impl fmt::Display for Seen {
             "answer {}, depth {}, position or start {}, named report {}, double {:016X}",
             self.answer, self.depth, self.word, self.byte, self.bits
         )?;
-        write!(f, "stack {}", field(&self.stack))?;
+        write!(f, "stack {}", counted(&self.stack))?;
         if !self.beside_untouched {
             write!(f, "\nbytes beside the stack were written")?;
         }

@@ -21,8 +21,8 @@ pub struct Vectors {
 }
 
 const HEADER: &str = "\
-# Cases for the calculator, made by second/vectors. A line is KIND DEPTH STACK BYTES:
-# o operate, p push, r run; bytes in hex, +N for N zero bytes more, - for none.
+# Cases for the calculator, made by second/vectors. A line is KIND and DEPTH, STACK, BYTES:
+# o operate, p push, r run; bytes as LENGTH:HEX, where zeros at the end may be left out.
 ";
 
 impl Vectors {

@@ -1,13 +1,12 @@
 -- `bits_of` is safe: a float that equals itself is no NaN.
-use borrow.Author.Needs.{needs}
 use mathlib.Core.Path.{_≡_}
 use Prim.Native.Nat.{ℕ}
 use native.Mathlib.Omega.{arith}
 use mathlib.Core.Bool.{true, not}
 use lib.Dec.{T}
 use lib.Ieee.{Float, nan, inf, fin, eq, isNan}
-use Rattle.vectors.proofs.cells.bits_of.Statement.{statement}
-use Rattle.vectors.proofs.cells.bits_of.Tie as tie
+use Rattle.vectors.proofs.answers.bits_of.Statement.{statement}
+use Rattle.vectors.proofs.answers.bits_of.Tie as tie
 
 equal : (x : Float) → eq x x ≡ true → T (not (isNan x))
 unfolding eq isNan
@@ -15,8 +14,5 @@ equal nan h = absurd (let z : _≡_ {A = ℕ} 0 1 = cc in omega arith)
 equal (inf s) h = tt
 equal (fin s m e) h = tt
 
-float-to-bits-result : tie.Need-float-to-bits-result
-float-to-bits-result c = equal _ (c .if1 .taken)
-
 pub bits-of-spec : {M : Type 1} → statement M
-bits-of-spec = tie.close (tie.spec float-to-bits-result (λ c. search needs) (λ c. search needs))
+bits-of-spec = tie.close (tie.spec (λ c. equal _ (c .if1 .taken)) (λ c. tt) (λ c. tt))
