@@ -1,8 +1,16 @@
 /*
  * Trenailer: the five-byte calculator arithmetic of the ZX Spectrum, on a stack of numbers that the caller lends.
  *
- * A number is five bytes. A stack is stack_len bytes, at most 16,000, and a depth: slot i is bytes 5i to 5i + 4, and the top is slot
- * depth - 1. Bytes after the last whole slot are never read or written.
+ * A number is five bytes b1 to b5, in one of four forms.
+ *
+ *     full       b1 is 1 to 255. b2 to b5 are the mantissa, high byte first, with the sign in place of its top bit, which is always set.
+ *                It is worth mantissa x 2^(b1 - 160).
+ *     short      b1 is 0, b2 is 00 or FF, b3 low and b4 high: 256 b4 + b3, less 65,536 if b2 is FF. b5 means nothing.
+ *     odd        00 FF 00 00 and any b5, which the ROM makes by mistake. It is well formed.
+ *     malformed  anything else: b1 is 0 and b2 is neither 00 nor FF.
+ *
+ * A stack is stack_len bytes, at most 16,000, and a depth: slot i is bytes 5i to 5i + 4, and the top is slot depth - 1. Bytes after the
+ * last whole slot are never read or written.
  *
  * Every call takes any bytes, any depth and any literal, keeps nothing between calls, and allocates nothing. A report other than 0
  * means that no byte of the stack and no depth has changed (a run keeps what the literals before the refused one did).
@@ -14,7 +22,9 @@
  *     3        an operand is malformed; the pushed bytes are not five, or are malformed
  *     4        no room for a push or a duplicate
  *     5        not one of the ten literals
- *     6        number too big
+ *     6        number too big: a divisor that counts as zero, or an exponent byte above 255
+ *
+ * They are asked in the order 1, 5, 2, 4, 3, 6, and the first that holds is given.
  *
  * Pointers. Each pointer is lent for the call. It points to as many bytes as the length beside it says, or to one object, and is not
  * null, not even where the length is 0: pass the address of any object then. No two of a call's objects overlap. Nothing else reads or
@@ -30,18 +40,21 @@
 extern "C" {
 #endif
 
-/* The ten literals. */
+/*
+ * The ten literals. Of two numbers the lower one is the first (6, then 2, then divide leaves 3), and the result stands in its slot; the
+ * slot above it keeps its bytes. Exchange, delete and duplicate don't look at a number's form.
+ */
 enum {
-    TRENAILER_EXCHANGE = 1,
-    TRENAILER_DELETE = 2,
-    TRENAILER_SUBTRACT = 3,
-    TRENAILER_DIVIDE = 5,
-    TRENAILER_ADD = 15,
-    TRENAILER_NEGATE = 27,
-    TRENAILER_INT = 39,
-    TRENAILER_DUPLICATE = 49,
-    TRENAILER_TRUNCATE = 58,
-    TRENAILER_RE_STACK = 61
+    TRENAILER_EXCHANGE = 1,   /* takes 2, leaves 2: swaps them */
+    TRENAILER_DELETE = 2,     /* takes 1, leaves 0 */
+    TRENAILER_SUBTRACT = 3,   /* takes 2, leaves 1: the first less the second */
+    TRENAILER_DIVIDE = 5,     /* takes 2, leaves 1: the first by the second */
+    TRENAILER_ADD = 15,       /* takes 2, leaves 1 */
+    TRENAILER_NEGATE = 27,    /* takes 1, leaves 1 */
+    TRENAILER_INT = 39,       /* takes 1, leaves 1: down to the next whole number */
+    TRENAILER_DUPLICATE = 49, /* takes 1, leaves 2 */
+    TRENAILER_TRUNCATE = 58,  /* takes 1, leaves 1: towards zero */
+    TRENAILER_RE_STACK = 61   /* takes 1, leaves 1: the full form of a short number */
 };
 
 /* Does one literal. Returns the report; *depth is the depth after it, and where it is refused the depth before it. */

@@ -1,12 +1,15 @@
 -- What the calculator's answers are through the C interface, where they go out as a number and through pointers.
 use Prim.Native.Nat.{ℕ, _-_, _*_}
 use mathlib.Core.Path.{_≡_}
+use mathlib.Core.Bool.{cond}
 use mathlib.Core.List.{List, [], _∷_}
+use lib.Dec.{eqb}
 use lib.Ieee.{Float}
 use lib.ListN.{length, take, drop}
 use Rattle.calculator.specs.declared.outcome.RunOutcome.{RunOutcome}
 use Rattle.display.specs.declared.shown.Cell.{Cell}
 use Rattle.display.specs.declared.shown.Cell.the-variants.{Refused, Blank, Odd, Value}
+use Rattle.display.specs.Cell.{reportIn, Carried, nothing, number, carriedBy}
 use Rattle.slots.specs.View.{viewOf}
 
 -- the report that is returned, with the position and the depth that are written
@@ -24,9 +27,18 @@ pub record Part (s : List ℕ) (d was n start : ℕ) : Type 0 where
   pub begins : start ≡ startOf (viewOf s d) d was
   pub bytes : take n (drop start s) ≡ viewOf s d
 
--- a cell's number, and what then stands in *refused and *value
+-- the interface's number for each case of a cell
+unfoldable pub kindOf : Cell → ℕ
+kindOf (Refused n) = 0
+kindOf Blank = 1
+kindOf Odd = 2
+kindOf (Value x) = 3
+
+unfoldable pub valueOr : Float → Carried → Float
+valueOr was nothing = was
+valueOr was (number x) = x
+
+-- What is returned, and what then stands in *refused and *value: the report that a refusal names, and the number that the cell carries.
+-- What a case does not name stays as it was.
 unfoldable pub toldOf : Cell → ℕ → Float → ℕ × ℕ × Float
-toldOf (Refused n) refused value = (0, n, value)
-toldOf Blank refused value = (1, refused, value)
-toldOf Odd refused value = (2, refused, value)
-toldOf (Value x) refused value = (3, refused, x)
+toldOf c refused value = (kindOf c, cond (eqb (kindOf c) 0) (reportIn c) refused, valueOr value (carriedBy c))
