@@ -4,7 +4,7 @@ use mathlib.Core.List.{List}
 use Rattle.slots.specs.declared.outcome.Outcome.{Outcome}
 use Rattle.slots.specs.Slots.{bytesOf}
 use Rattle.slots.specs.Push.{pushOf}
-use Rattle.calculator.specs.Operate.{operateOf}
+use Rattle.literals.specs.Operate.{operateOf}
 use Rattle.sheet.specs.declared.meaning.Line.{Line}
 use Rattle.sheet.specs.declared.meaning.Line.the-variants.{Nothing, Push, Literal, Unreadable}
 

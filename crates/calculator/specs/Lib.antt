@@ -1,11 +1,3 @@
-pub mod Literals
-pub mod TableLaws
-pub mod Reports
-pub mod ReportLaws
-pub mod Operate
-pub mod OperateLaws
-pub mod Dispatch
-pub mod RowLaws
-pub mod DispatchLaws
+pub mod Operands
 pub mod Run
 pub mod RunLaws

@@ -7,8 +7,8 @@ use mathlib.Core.Bool.{cond, _||_}
 use lib.Dec.{eqb}
 use Rattle.calculator.specs.declared.outcome.RunOutcome.{RunOutcome}
 use Rattle.slots.specs.Reports.{overLimits}
-use Rattle.calculator.specs.Reports.{tooManyLiterals}
-use Rattle.calculator.specs.Operate.{operateOf}
+use Rattle.literals.specs.Reports.{tooManyLiterals}
+use Rattle.literals.specs.Operate.{operateOf}
 
 -- the literals that are left, after i of them, on the stack s at depth d
 unfoldable pub goOn : List ℕ → ℕ → List ℕ → ℕ → RunOutcome × List ℕ

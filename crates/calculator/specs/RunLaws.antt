@@ -9,9 +9,9 @@ use lib.Seq.{drop-cons, drop-length}
 use borrow.Author.Tests.{lt-ltb, le-ltb, eq-eqb, ne-eqb}
 use Rattle.slots.specs.declared.outcome.Outcome.{Outcome}
 use Rattle.slots.specs.Reports.{overLimits}
-use Rattle.calculator.specs.Reports.{tooManyLiterals}
-use Rattle.calculator.specs.Operate.{operateOf}
-use Rattle.calculator.specs.OperateLaws.{operate-kept}
+use Rattle.literals.specs.Reports.{tooManyLiterals}
+use Rattle.literals.specs.Operate.{operateOf}
+use Rattle.literals.specs.OperateLaws.{operate-kept}
 use Rattle.calculator.specs.Run.{goOn, runOf}
 
 module _ (ls : List ℕ) (i : ℕ) (s : List ℕ) (d : ℕ) where

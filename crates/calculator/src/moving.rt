@@ -4,8 +4,8 @@ ghost use mathlib.Core.Path.{_≡_};
 ghost use Prim.Native.Nat.{ℕ};
 ghost use mathlib.Core.List.{List};
 ghost use Rattle.slots.specs.LimitLaws.{Within};
-ghost use Rattle.calculator.specs.Literals.{row, rowOf, exchange as swap, delete as drop, duplicate as copy};
-ghost use Rattle.calculator.specs.Dispatch.{Stepped};
+ghost use Rattle.literals.specs.Literals.{row, rowOf, exchange as swap, delete as drop, duplicate as copy};
+ghost use Rattle.literals.specs.Dispatch.{Stepped};
 
 pub(crate) fn exchange(stack: &mut [u8], depth: &mut usize, taken: usize, left: usize) -> u8
     requires { ⌜ Within (now stack) (now depth) ⌝ }

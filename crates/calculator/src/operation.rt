@@ -6,8 +6,8 @@ use crate::two;
 use slots::Outcome;
 ghost use mathlib.Core.Path.{_≡_};
 ghost use Rattle.slots.specs.LimitLaws.{Within};
-ghost use Rattle.calculator.specs.Operate.{operateOf, outcome};
-ghost use Rattle.calculator.specs.Dispatch.{Moves, TakesTwo, Stepped};
+ghost use Rattle.literals.specs.Operate.{operateOf, outcome};
+ghost use Rattle.literals.specs.Dispatch.{Moves, TakesTwo, Stepped};
 
 pub fn operate(stack: &mut [u8], depth: usize, literal: u8) -> Outcome
     ensures { λ r. ⌜ operateOf (now (stack .entry)) depth literal ≡ (r, now (stack .exit)) ⌝ }
@@ -36,18 +36,18 @@ pub(crate) fn step(stack: &mut [u8], depth: &mut usize, literal: u8) -> u8
     requires { ⌜ Within (now stack) (now depth) ⌝ }
     ensures { λ r. ⌜ Stepped (now (stack .entry)) (now (depth .entry)) literal r (now (depth .exit)) (now (stack .exit)) ⌝ }
 {
-    if literal == table::EXCHANGE.literal {
-        return moving::exchange(stack, depth, table::EXCHANGE.takes, table::EXCHANGE.leaves);
+    if literal == table::EXCHANGE {
+        return moving::exchange(stack, depth, table::EXCHANGE_TAKES, table::EXCHANGE_LEAVES);
     }
-    if literal == table::DELETE.literal {
-        return moving::delete(depth, table::DELETE.takes, table::DELETE.leaves);
+    if literal == table::DELETE {
+        return moving::delete(depth, table::DELETE_TAKES, table::DELETE_LEAVES);
     }
-    if literal == table::DUPLICATE.literal {
+    if literal == table::DUPLICATE {
         return moving::duplicate(
             stack,
             depth,
-            table::DUPLICATE.takes,
-            table::DUPLICATE.leaves,
+            table::DUPLICATE_TAKES,
+            table::DUPLICATE_LEAVES,
         );
     }
     step_two(stack, depth, literal)
@@ -59,26 +59,26 @@ fn step_two(stack: &mut [u8], depth: &mut usize, literal: u8) -> u8
     requires { ⌜ (Moves literal → ⊥) ⌝ }
     ensures { λ r. ⌜ Stepped (now (stack .entry)) (now (depth .entry)) literal r (now (depth .exit)) (now (stack .exit)) ⌝ }
 {
-    if literal == table::SUBTRACT.literal {
+    if literal == table::SUBTRACT {
         return two::two(
             stack,
             depth,
             literal,
-            table::SUBTRACT.takes,
-            table::SUBTRACT.leaves,
+            table::SUBTRACT_TAKES,
+            table::SUBTRACT_LEAVES,
         );
     }
-    if literal == table::DIVIDE.literal {
+    if literal == table::DIVIDE {
         return two::two(
             stack,
             depth,
             literal,
-            table::DIVIDE.takes,
-            table::DIVIDE.leaves,
+            table::DIVIDE_TAKES,
+            table::DIVIDE_LEAVES,
         );
     }
-    if literal == table::ADD.literal {
-        return two::two(stack, depth, literal, table::ADD.takes, table::ADD.leaves);
+    if literal == table::ADD {
+        return two::two(stack, depth, literal, table::ADD_TAKES, table::ADD_LEAVES);
     }
     step_one(stack, depth, literal)
 }
@@ -89,34 +89,34 @@ fn step_one(stack: &mut [u8], depth: &mut usize, literal: u8) -> u8
     requires { ⌜ (Moves literal → ⊥) × (TakesTwo literal → ⊥) ⌝ }
     ensures { λ r. ⌜ Stepped (now (stack .entry)) (now (depth .entry)) literal r (now (depth .exit)) (now (stack .exit)) ⌝ }
 {
-    if literal == table::NEGATE.literal {
+    if literal == table::NEGATE {
         return one::one(
             stack,
             depth,
             literal,
-            table::NEGATE.takes,
-            table::NEGATE.leaves,
+            table::NEGATE_TAKES,
+            table::NEGATE_LEAVES,
         );
     }
-    if literal == table::INT.literal {
-        return one::one(stack, depth, literal, table::INT.takes, table::INT.leaves);
+    if literal == table::INT {
+        return one::one(stack, depth, literal, table::INT_TAKES, table::INT_LEAVES);
     }
-    if literal == table::TRUNCATE.literal {
+    if literal == table::TRUNCATE {
         return one::one(
             stack,
             depth,
             literal,
-            table::TRUNCATE.takes,
-            table::TRUNCATE.leaves,
+            table::TRUNCATE_TAKES,
+            table::TRUNCATE_LEAVES,
         );
     }
-    if literal == table::RE_STACK.literal {
+    if literal == table::RE_STACK {
         return one::one(
             stack,
             depth,
             literal,
-            table::RE_STACK.takes,
-            table::RE_STACK.leaves,
+            table::RE_STACK_TAKES,
+            table::RE_STACK_LEAVES,
         );
     }
     5 // not in the table

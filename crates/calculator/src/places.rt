@@ -22,17 +22,11 @@ fn four_in(stack: &[u8], slot: usize) -> u32
     number::joined(stack[at + 4], stack[at + 3], stack[at + 2], stack[at + 1])
 }
 
-fn swapped(w: u32) -> u32
-    ensures { λ r. ⌜ r ≡ swappedOf w ⌝ }
-{
-    w % 256 * 16777216 + w / 256 % 256 * 65536 + w / 65536 % 256 * 256 + w / 16777216
-}
-
 pub(crate) fn word_in(stack: &[u8], slot: usize) -> u32
     requires { ⌜ 5 * slot + 5 ≤ length (now stack) ⌝ }
     ensures { λ r. ⌜ r ≡ numberIn (now (stack .entry)) slot .word ⌝ }
 {
-    swapped(four_in(stack, slot))
+    number::swapped(four_in(stack, slot))
 }
 
 // The word is looked at only where b1 is 0: a full number has no form to test.

@@ -3,13 +3,11 @@ use crate::places;
 use ending::Answer;
 use number::Number;
 ghost use mathlib.Core.Path.{_≡_};
-ghost use mathlib.Core.Bool.{cond};
 ghost use Prim.Native.Nat.{_≤_};
-ghost use lib.Dec.{eqb};
-ghost use Rattle.number.specs.Negate.{negated};
 ghost use Rattle.slots.specs.LimitLaws.{Within};
-ghost use Rattle.calculator.specs.Literals.{two as ofTwoNumbers};
-ghost use Rattle.calculator.specs.Dispatch.{ofTwo, RowRead, Stepped, TwoRead, storedOf};
+ghost use Rattle.literals.specs.Literals.{two as ofTwoNumbers};
+ghost use Rattle.literals.specs.Dispatch.{ofTwo, RowRead, Stepped, storedOf};
+ghost use Rattle.calculator.specs.Operands.{TwoRead};
 
 // The two operands, or the report that refuses them.
 struct Operands {
@@ -68,36 +66,6 @@ fn store(stack: &mut [u8], depth: &mut usize, answer: Answer, taken: usize, left
     }
 }
 
-// Subtraction negates the second, then adds.
-fn added(literal: u8, second: Number) -> Number
-    ensures { λ r. ⌜ r ≡ cond (eqb literal 3) (negated second) second ⌝ }
-{
-    let b1 = second.b1;
-    let word = second.word;
-    if literal == 3 {
-        return number::negate(Number { b1, word });
-    }
-    Number { b1, word }
-}
-
-// A number that is written out field by field stays in registers; one that is handed on as it came goes through memory.
-fn of_two(literal: u8, x: Number, y: Number) -> Answer
-    ensures { λ r. ⌜ r ≡ ofTwo literal x y ⌝ }
-{
-    let first = Number {
-        b1: x.b1,
-        word: x.word,
-    };
-    let second = Number {
-        b1: y.b1,
-        word: y.word,
-    };
-    if literal == 5 {
-        return division::division(first, second);
-    }
-    addition::addition(first, added(literal, second))
-}
-
 pub(crate) fn two(stack: &mut [u8], depth: &mut usize, literal: u8, taken: usize, left: usize) -> u8
     requires { ⌜ Within (now stack) (now depth) ⌝ }
     requires { ⌜ RowRead literal (ofTwoNumbers (ofTwo literal)) 2 1 taken left ⌝ }
@@ -108,6 +76,6 @@ pub(crate) fn two(stack: &mut [u8], depth: &mut usize, literal: u8, taken: usize
     if report != 0 {
         return report;
     }
-    let answer = of_two(literal, read.first, read.second);
+    let answer = literals::of_two(literal, read.first, read.second);
     store(stack, depth, answer, taken, left)
 }

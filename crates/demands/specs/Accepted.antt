@@ -11,8 +11,8 @@ use Rattle.number.specs.Number.{malformed}
 use Rattle.slots.specs.Slots.{numberIn}
 use Rattle.slots.specs.Reports.{overLimits, noRoom, notANumber, pushReport}
 use Rattle.slots.specs.LimitLaws.{within-of}
-use Rattle.calculator.specs.Literals.{operationOf, takes}
-use Rattle.calculator.specs.Reports.{notInTable, noRoomFor, malformedOperand, tooBig, reportOf}
+use Rattle.literals.specs.Literals.{operationOf, takes}
+use Rattle.literals.specs.Reports.{notInTable, noRoomFor, malformedOperand, tooBig, reportOf}
 
 -- a row that is passed over does not hold
 passed : (b : Bool) (n r : ℕ) → cond b (suc n) r ≡ 0 → (b ≡ false) × (r ≡ 0)

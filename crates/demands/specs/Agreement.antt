@@ -12,7 +12,7 @@ use Rattle.ending.specs.declared.answer.Answer.the-variants.{Done, TooBig}
 use Rattle.slots.specs.Slots.{slot, numberIn, bytesOf, putSlot}
 use Rattle.slots.specs.SlotLaws.{length-putSlot}
 use Rattle.slots.specs.Reports.{overLimits, noRoom}
-use Rattle.calculator.specs.Operate.{stored}
+use Rattle.literals.specs.Operate.{stored}
 use Rattle.demands.specs.SlotFacts.{number-slot, same-slot, put-inside, put-elsewhere}
 
 pub record Agree (d : ℕ) (s s′ : List ℕ) : Type 0 where

@@ -10,7 +10,7 @@ use Rattle.ending.specs.declared.answer.Answer.{Answer}
 use Rattle.ending.specs.declared.answer.Answer.the-variants.{Done, TooBig}
 use Rattle.slots.specs.Slots.{slot, putSlot}
 use Rattle.slots.specs.SlotLaws.{length-putSlot}
-use Rattle.calculator.specs.Reports.{isTooBig}
+use Rattle.literals.specs.Reports.{isTooBig}
 use Rattle.demands.specs.SlotFacts.{put-slot, put-elsewhere}
 
 -- s′ is s with the bytes v in slot i, and every other byte as it was

@@ -2,8 +2,8 @@
 use Prim.Native.Nat.{ℕ}
 use mathlib.Core.Path.{_≡_}
 use lib.Dec.{eqb, eqb→eq}
-use Rattle.calculator.specs.Literals.{Operation, exchange, delete, duplicate, one, two, unknown, operationOf, takes, leaves, rowOf}
-use Rattle.calculator.specs.TableLaws.{rule}
+use Rattle.literals.specs.Literals.{Operation, exchange, delete, duplicate, one, two, unknown, operationOf, takes, leaves, rowOf}
+use Rattle.literals.specs.TableLaws.{rule}
 
 abbrev pub takesOf : Operation → ℕ
 takesOf exchange = 2

@@ -12,9 +12,9 @@ use Rattle.display.specs.declared.shown.Cell.the-variants.{Refused, Blank, Odd,
 use Rattle.slots.specs.Reports.{When, first, pushRows, overLimits, pushReport}
 use Rattle.slots.specs.Push.{settled, pushOf}
 use Rattle.slots.specs.PushLaws.{settled-refused}
-use Rattle.calculator.specs.Reports.{rows, tooManyLiterals, reportOf}
-use Rattle.calculator.specs.Operate.{operateOf}
-use Rattle.calculator.specs.OperateLaws.{operate-kept}
+use Rattle.literals.specs.Reports.{rows, tooManyLiterals, reportOf}
+use Rattle.literals.specs.Operate.{operateOf}
+use Rattle.literals.specs.OperateLaws.{operate-kept}
 use Rattle.calculator.specs.Run.{goOn, runOf}
 use Rattle.display.specs.Cell.{cellOf, reportIn, carriedBy, nothing}
 use Rattle.display.specs.CellLaws.{cell-refused}

@@ -17,10 +17,10 @@ use Rattle.ending.specs.declared.answer.Answer.the-variants.{Done}
 use Rattle.slots.specs.Slots.{slot, bytesOf, putSlot, top, lower}
 use Rattle.slots.specs.Reports.{noRoom, pushReport}
 use Rattle.slots.specs.Push.{settled, pushOf}
-use Rattle.calculator.specs.Literals.{Operation, exchange, delete, duplicate, one, two, rowOf, operationOf, takes, leaves}
-use Rattle.calculator.specs.Reports.{noRoomFor, tooBig, reportOf}
-use Rattle.calculator.specs.Operate.{stored, bytesAfter, operateOf}
-use Rattle.calculator.specs.OperateLaws.{operate-done}
+use Rattle.literals.specs.Literals.{Operation, exchange, delete, duplicate, one, two, rowOf, operationOf, takes, leaves}
+use Rattle.literals.specs.Reports.{noRoomFor, tooBig, reportOf}
+use Rattle.literals.specs.Operate.{stored, bytesAfter, operateOf}
+use Rattle.literals.specs.OperateLaws.{operate-done}
 use Rattle.demands.specs.SlotFacts.{length-slot, same-slot}
 use Rattle.demands.specs.Accepted.{accepted, within, pushable, fits}
 use Rattle.demands.specs.Counts.{takesOf, takes-are}

@@ -15,9 +15,9 @@ use Rattle.slots.specs.Reports.{overLimits, pushReport}
 use Rattle.slots.specs.LimitLaws.{within-of}
 use Rattle.slots.specs.Push.{settled, pushOf}
 use Rattle.slots.specs.View.{viewOf}
-use Rattle.calculator.specs.Literals.{operationOf, takes, leaves}
-use Rattle.calculator.specs.Reports.{tooManyLiterals, notInTable, reportOf}
-use Rattle.calculator.specs.Operate.{bytesAfter, operateOf}
+use Rattle.literals.specs.Literals.{operationOf, takes, leaves}
+use Rattle.literals.specs.Reports.{tooManyLiterals, notInTable, reportOf}
+use Rattle.literals.specs.Operate.{bytesAfter, operateOf}
 use Rattle.calculator.specs.Run.{goOn, runOf}
 use Rattle.display.specs.Cell.{numberShown, cellOf}
 use Rattle.demands.specs.Accepted.{accepted, within, pushable, fits}

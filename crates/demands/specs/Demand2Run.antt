@@ -11,8 +11,8 @@ use lib.ListN.{length, getD, take}
 use borrow.Author.Tests.{eqb-true, eqb-false}
 use Rattle.calculator.specs.declared.outcome.RunOutcome.{RunOutcome}
 use Rattle.slots.specs.Reports.{overLimits}
-use Rattle.calculator.specs.Reports.{tooManyLiterals, reportOf}
-use Rattle.calculator.specs.Operate.{operateOf}
+use Rattle.literals.specs.Reports.{tooManyLiterals, reportOf}
+use Rattle.literals.specs.Operate.{operateOf}
 use Rattle.calculator.specs.Run.{goOn, runOf}
 use Rattle.demands.specs.Demand1.{operation-report}
 

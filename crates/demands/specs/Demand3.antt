@@ -22,11 +22,11 @@ use Rattle.division.specs.Demand3Laws.{demand3}
 use Rattle.slots.specs.declared.outcome.Outcome.{Outcome}
 use Rattle.slots.specs.Slots.{numberIn, lower, top}
 use Rattle.slots.specs.LimitLaws.{Within}
-use Rattle.calculator.specs.Literals.{rowOf, operationOf, takes}
-use Rattle.calculator.specs.Reports.{notInTable, noRoomFor, malformedOperand, isTooBig, tooBig, reportOf}
-use Rattle.calculator.specs.ReportLaws.{Reached, report-6, report-0}
-use Rattle.calculator.specs.Operate.{stored, bytesAfter, operateOf}
-use Rattle.calculator.specs.OperateLaws.{operate-done}
+use Rattle.literals.specs.Literals.{rowOf, operationOf, takes}
+use Rattle.literals.specs.Reports.{notInTable, noRoomFor, malformedOperand, isTooBig, tooBig, reportOf}
+use Rattle.literals.specs.ReportLaws.{Reached, report-6, report-0}
+use Rattle.literals.specs.Operate.{stored, bytesAfter, operateOf}
+use Rattle.literals.specs.OperateLaws.{operate-done}
 use Rattle.demands.specs.SlotFacts.{put-there}
 
 -- What literal 5 leaves: "report 6", or "the number left in the dividend's slot".

@@ -9,9 +9,9 @@ use borrow.Author.Tests.{ltb-false}
 use Rattle.slots.specs.Slots.{slot, top, lower}
 use Rattle.slots.specs.SlotLaws.{length-putSlot}
 use Rattle.slots.specs.Reports.{noRoom}
-use Rattle.calculator.specs.Literals.{Operation, exchange, delete, duplicate, one, two, unknown}
-use Rattle.calculator.specs.Reports.{noRoomFor, malformedOperand, tooBig}
-use Rattle.calculator.specs.Operate.{bytesAfter}
+use Rattle.literals.specs.Literals.{Operation, exchange, delete, duplicate, one, two, unknown}
+use Rattle.literals.specs.Reports.{noRoomFor, malformedOperand, tooBig}
+use Rattle.literals.specs.Operate.{bytesAfter}
 use Rattle.demands.specs.SlotFacts.{length-slot}
 use Rattle.demands.specs.Counts.{takesOf, leavesOf}
 use Rattle.demands.specs.Agreement.{Agree, room-agrees, slot-agrees, number-agrees, put-below, put-at, lesser, stored-agrees}

@@ -18,9 +18,9 @@ use Rattle.slots.specs.declared.outcome.Outcome.{Outcome}
 use Rattle.slots.specs.Slots.{slot, numberIn, bytesOf, putSlot}
 use Rattle.slots.specs.Reports.{overLimits, noRoom}
 use Rattle.slots.specs.Push.{settled}
-use Rattle.calculator.specs.Literals.{rowOf, operationOf, takes, leaves}
-use Rattle.calculator.specs.Reports.{tooManyLiterals, notInTable, noRoomFor, malformedOperand, isTooBig, tooBig, reportOf}
-use Rattle.calculator.specs.Operate.{stored, bytesAfter, operateOf}
+use Rattle.literals.specs.Literals.{rowOf, operationOf, takes, leaves}
+use Rattle.literals.specs.Reports.{tooManyLiterals, notInTable, noRoomFor, malformedOperand, isTooBig, tooBig, reportOf}
+use Rattle.literals.specs.Operate.{stored, bytesAfter, operateOf}
 use Rattle.calculator.specs.Run.{goOn, runOf}
 
 -- a stack, its depth and a literal, with what the literal leaves

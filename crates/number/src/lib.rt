@@ -16,6 +16,7 @@ pub use parts::halves_word;
 pub use parts::joined;
 pub use parts::low_half;
 pub use parts::short_word;
+pub use parts::swapped;
 pub use restacking::re_stack;
 pub use unpacking::Unpacked;
 pub use unpacking::unpack;

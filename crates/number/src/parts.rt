@@ -1,13 +1,20 @@
 // What the word of a number is made of, taken apart and put together. A word is handed on by itself: the compiler then keeps it in a register.
 ghost use mathlib.Core.Path.{_≡_};
 ghost use Prim.Native.Nat.{_+_, _*_, _/_, _%_};
-ghost use Rattle.number.specs.Number.{number, wordOf, low, complementOf, shortMagnitude, fullOf, halves, shortOf};
+ghost use Rattle.number.specs.Number.{number, wordOf, swappedOf, low, complementOf, shortMagnitude, fullOf, halves, shortOf};
 
 // The word of four bytes.
 pub fn joined(b2: u8, b3: u8, b4: u8, b5: u8) -> u32
     ensures { λ r. ⌜ r ≡ wordOf b2 b3 b4 b5 ⌝ }
 {
     b2 as u32 * 16777216 + b3 as u32 * 65536 + b4 as u32 * 256 + b5 as u32
+}
+
+// The word of its four bytes in the other order.
+pub fn swapped(w: u32) -> u32
+    ensures { λ r. ⌜ r ≡ swappedOf w ⌝ }
+{
+    w % 256 * 16777216 + w / 256 % 256 * 65536 + w / 65536 % 256 * 256 + w / 16777216
 }
 
 // Two's complement on sixteen bits.

@@ -4,7 +4,7 @@ use calculator::Cell;
 ghost use mathlib.Core.Path.{_≡_};
 ghost use Rattle.slots.specs.Push.{pushOf};
 ghost use Rattle.display.specs.Cell.{cellOf};
-ghost use Rattle.calculator.specs.Operate.{outcome, operateOf};
+ghost use Rattle.literals.specs.Operate.{outcome, operateOf};
 ghost use Rattle.calculator.specs.Run.{runOf};
 ghost use Rattle.trenailer.specs.Told.{runOutcome, Part, toldOf};
 

@@ -1,9 +1,9 @@
 -- `delete` meets its contract: it moves the depth and no byte.
 use mathlib.Core.Path.{refl}
 use native.Mathlib.Omega.{arith}
-use Rattle.calculator.specs.Reports.{notInTable, noRoomFor, malformedOperand, tooBig}
-use Rattle.calculator.specs.Operate.{bytesAfter}
-use Rattle.calculator.specs.DispatchLaws.{refused-2, accepted}
+use Rattle.literals.specs.Reports.{notInTable, noRoomFor, malformedOperand, tooBig}
+use Rattle.literals.specs.Operate.{bytesAfter}
+use Rattle.literals.specs.DispatchLaws.{refused-2, accepted}
 use Rattle.calculator.proofs.moving.delete.Statement.{statement}
 use Rattle.calculator.proofs.moving.delete.Tie as tie
 

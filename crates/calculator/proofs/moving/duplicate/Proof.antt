@@ -6,9 +6,9 @@ use native.Mathlib.Omega.{arith}
 use Prim.Native.Nat.{_+_, _*_}
 use lib.ListN.{length}
 use Rattle.slots.specs.Reports.{noRoom}
-use Rattle.calculator.specs.Reports.{notInTable, noRoomFor, malformedOperand, tooBig}
-use Rattle.calculator.specs.Operate.{bytesAfter}
-use Rattle.calculator.specs.DispatchLaws.{refused-2, refused-4, accepted}
+use Rattle.literals.specs.Reports.{notInTable, noRoomFor, malformedOperand, tooBig}
+use Rattle.literals.specs.Operate.{bytesAfter}
+use Rattle.literals.specs.DispatchLaws.{refused-2, refused-4, accepted}
 use Rattle.calculator.proofs.moving.duplicate.Statement.{statement}
 use Rattle.calculator.proofs.moving.duplicate.Tie as tie
 

@@ -2,9 +2,9 @@
 use borrow.Author.Needs.{needs}
 use mathlib.Core.Path.{refl, sym}
 use native.Mathlib.Omega.{arith}
-use Rattle.calculator.specs.Reports.{notInTable, noRoomFor, malformedOperand, tooBig}
-use Rattle.calculator.specs.Operate.{bytesAfter}
-use Rattle.calculator.specs.DispatchLaws.{refused-2, accepted}
+use Rattle.literals.specs.Reports.{notInTable, noRoomFor, malformedOperand, tooBig}
+use Rattle.literals.specs.Operate.{bytesAfter}
+use Rattle.literals.specs.DispatchLaws.{refused-2, accepted}
 use Rattle.calculator.proofs.moving.exchange.Statement.{statement}
 use Rattle.calculator.proofs.moving.exchange.Tie as tie
 

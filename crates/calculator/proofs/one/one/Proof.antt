@@ -2,9 +2,9 @@
 use borrow.Author.Needs.{needs}
 use mathlib.Core.Path.{refl, sym, _∙_, ap, ap₂}
 use Rattle.number.specs.Number.{number}
-use Rattle.calculator.specs.Reports.{notInTable}
-use Rattle.calculator.specs.Dispatch.{ofOne}
-use Rattle.calculator.specs.DispatchLaws.{refused-2, one-malformed, one-done}
+use Rattle.literals.specs.Reports.{notInTable}
+use Rattle.literals.specs.Dispatch.{ofOne}
+use Rattle.literals.specs.DispatchLaws.{refused-2, one-malformed, one-done}
 use Rattle.calculator.proofs.one.one.Statement.{statement}
 use Rattle.calculator.proofs.one.one.Tie as tie
 

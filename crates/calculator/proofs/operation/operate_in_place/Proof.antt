@@ -2,7 +2,7 @@
 use borrow.Author.Needs.{needs}
 use mathlib.Core.Path.{sym, _∙_}
 use Rattle.slots.specs.LimitLaws.{within-of}
-use Rattle.calculator.specs.OperateLaws.{operate-over}
+use Rattle.literals.specs.OperateLaws.{operate-over}
 use Rattle.calculator.proofs.operation.operate_in_place.Statement.{statement}
 use Rattle.calculator.proofs.operation.operate_in_place.Tie as tie
 

@@ -4,7 +4,7 @@ use Prim.Native.Nat.{ℕ, _+_, _-_}
 use mathlib.Core.Path.{_≡_, sym, _∙_, ap, ap₂}
 use mathlib.Core.List.{List}
 use native.Mathlib.Omega.{arith}
-use Rattle.calculator.specs.Dispatch.{storedOf}
+use Rattle.literals.specs.Dispatch.{storedOf}
 use Rattle.calculator.proofs.two.store.Statement.{statement}
 use Rattle.calculator.proofs.two.store.Tie as tie
 

@@ -6,8 +6,8 @@ use mathlib.Core.Bool.{cond, _||_}
 use lib.Dec.{ltb}
 use Rattle.number.specs.Number.{malformed}
 use Rattle.slots.specs.Slots.{top, lower}
-use Rattle.calculator.specs.Dispatch.{ofTwo, storedOf}
-use Rattle.calculator.specs.DispatchLaws.{two-refused, read, two-stored}
+use Rattle.literals.specs.Dispatch.{ofTwo, storedOf}
+use Rattle.literals.specs.DispatchLaws.{two-refused, read, two-stored}
 use Rattle.calculator.proofs.two.two.Statement.{statement}
 use Rattle.calculator.proofs.two.two.Tie as tie
 

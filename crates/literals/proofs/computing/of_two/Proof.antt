@@ -2,9 +2,9 @@
 use mathlib.Core.Path.{sym, _∙_, ap}
 use borrow.Author.Tests.{eq-eqb, ne-eqb}
 use Rattle.addition.specs.Addition.{sumOf}
-use Rattle.calculator.specs.Dispatch.{ofTwo}
-use Rattle.calculator.proofs.two.of_two.Statement.{statement}
-use Rattle.calculator.proofs.two.of_two.Tie as tie
+use Rattle.literals.specs.Dispatch.{ofTwo}
+use Rattle.literals.proofs.computing.of_two.Statement.{statement}
+use Rattle.literals.proofs.computing.of_two.Tie as tie
 
 returns : tie.Need-returns
 unfolding ofTwo

@@ -5,9 +5,9 @@ use mathlib.Core.Logic.{inl, inr}
 use mathlib.Core.Bool.{true}
 use borrow.Author.Tests.{ne-eqb}
 use Rattle.addition.specs.Addition.{differenceOf}
-use Rattle.calculator.specs.Literals.{Operation, exchange, delete, duplicate, one, two, unknown, Row, row, rowOf, operationOf}
-use Rattle.calculator.specs.Reports.{notInTable}
-use Rattle.calculator.specs.Dispatch.{ofTwo, ofOne, Moves, TakesTwo}
+use Rattle.literals.specs.Literals.{Operation, exchange, delete, duplicate, one, two, unknown, Row, row, rowOf, operationOf}
+use Rattle.literals.specs.Reports.{notInTable}
+use Rattle.literals.specs.Dispatch.{ofTwo, ofOne, Moves, TakesTwo}
 
 at : (l k : ℕ) (o : ℕ → Operation) (t n : ℕ) → l ≡ k → rowOf k ≡ row k (o k) t n → rowOf l ≡ row l (o l) t n
 at l k o t n e h = subst (λ (i : ℕ). rowOf i ≡ row i (o i) t n) (sym e) h

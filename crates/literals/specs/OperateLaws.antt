@@ -7,9 +7,9 @@ use Rattle.slots.specs.declared.outcome.Outcome.{Outcome}
 use Rattle.slots.specs.Reports.{overLimits}
 use Rattle.slots.specs.Push.{settled}
 use Rattle.slots.specs.PushLaws.{settled-refused}
-use Rattle.calculator.specs.Literals.{operationOf, takes, leaves}
-use Rattle.calculator.specs.Reports.{reportOf}
-use Rattle.calculator.specs.Operate.{outcome, bytesAfter, operateOf}
+use Rattle.literals.specs.Literals.{operationOf, takes, leaves}
+use Rattle.literals.specs.Reports.{reportOf}
+use Rattle.literals.specs.Operate.{outcome, bytesAfter, operateOf}
 
 module _ (s : List ℕ) (d l : ℕ) where
   pub operate-refused : {k : ℕ} → reportOf s d l ≡ suc k → operateOf s d l ≡ (outcome (suc k) d, s)

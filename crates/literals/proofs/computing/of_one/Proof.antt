@@ -2,9 +2,9 @@
 use mathlib.Core.Path.{sym, _∙_, ap}
 use borrow.Author.Tests.{ne-eqb}
 use Rattle.ending.specs.declared.answer.Answer.the-variants.{Done}
-use Rattle.calculator.specs.Dispatch.{ofOne}
-use Rattle.calculator.proofs.one.of_one.Statement.{statement}
-use Rattle.calculator.proofs.one.of_one.Tie as tie
+use Rattle.literals.specs.Dispatch.{ofOne}
+use Rattle.literals.proofs.computing.of_one.Statement.{statement}
+use Rattle.literals.proofs.computing.of_one.Tie as tie
 
 returns : tie.Need-returns
 unfolding ofOne

@@ -18,9 +18,8 @@ use Rattle.addition.specs.Addition.{sumOf}
 use Rattle.division.specs.Division.{quotientOf}
 use Rattle.slots.specs.Slots.{putIn, top, lower}
 use Rattle.slots.specs.Reports.{when, first}
-use Rattle.calculator.specs.declared.two.Operands.{Operands}
-use Rattle.calculator.specs.Literals.{Operation, row, rowOf}
-use Rattle.calculator.specs.Operate.{outcome, operateOf}
+use Rattle.literals.specs.Literals.{Operation, row, rowOf}
+use Rattle.literals.specs.Operate.{outcome, operateOf}
 
 -- of the literals 3, 5 and 15
 unfoldable pub ofTwo : ℕ → Number → Number → Answer
@@ -47,11 +46,6 @@ pub record RowRead (l : ℕ) (o : Operation) (t n taken left : ℕ) : Type 0 whe
 pub record Stepped (s : List ℕ) (d l report d′ : ℕ) (s′ : List ℕ) : Type 0 where
   pub same : operateOf s d l ≡ (outcome report d′, s′)
   pub fits : 5 * d′ ≤ length s
-
--- two operands: the report that refuses them, or the numbers
-pub record TwoRead (s : List ℕ) (d : ℕ) (o : Operands) : Type 0 where
-  pub report : o .report ≡ first (when 2 (ltb d 2) ∷ when 3 (malformed (lower s d) || malformed (top s d)) ∷ [])
-  pub numbers : o .report ≡ 0 → (o .first ≡ lower s d) × (o .second ≡ top s d)
 
 -- what is answered, and the depth and the bytes once an answer of two numbers is stored
 unfoldable pub storedOf : List ℕ → ℕ → Answer → ℕ × ℕ × List ℕ

@@ -3,7 +3,7 @@ use Prim.Native.Nat.{ℕ}
 use mathlib.Core.Bool.{Bool, true, false, cond, _&&_}
 use mathlib.Core.List.{List, [], _∷_}
 use lib.Dec.{T, eqb}
-use Rattle.calculator.specs.Literals.{unknown, Row, row, table, find, rowOf}
+use Rattle.literals.specs.Literals.{unknown, Row, row, table, find, rowOf}
 
 both-left : (a b : Bool) → T (a && b) → T a
 both-left true b t = tt

@@ -7,8 +7,8 @@ use Rattle.ending.specs.declared.answer.Answer.the-variants.{Done, TooBig}
 use Rattle.slots.specs.declared.outcome.Outcome.{Outcome}
 use Rattle.slots.specs.Slots.{slot, putSlot, putIn, top, lower}
 use Rattle.slots.specs.Push.{settled}
-use Rattle.calculator.specs.Literals.{Operation, exchange, delete, duplicate, one, two, unknown, operationOf, takes, leaves}
-use Rattle.calculator.specs.Reports.{reportOf}
+use Rattle.literals.specs.Literals.{Operation, exchange, delete, duplicate, one, two, unknown, operationOf, takes, leaves}
+use Rattle.literals.specs.Reports.{reportOf}
 
 abbrev pub outcome : ℕ → ℕ → Outcome
 outcome r d = record { report = r; depth = d }

@@ -10,7 +10,7 @@ use Rattle.ending.specs.declared.answer.Answer.{Answer}
 use Rattle.ending.specs.declared.answer.Answer.the-variants.{Done, TooBig}
 use Rattle.slots.specs.Slots.{top, lower}
 use Rattle.slots.specs.Reports.{overLimits, noRoom, When, when, first}
-use Rattle.calculator.specs.Literals.{Operation, exchange, delete, duplicate, one, two, unknown, operationOf, takes}
+use Rattle.literals.specs.Literals.{Operation, exchange, delete, duplicate, one, two, unknown, operationOf, takes}
 
 -- 1: "or a literal list over 60,000"
 unfoldable pub tooManyLiterals : List ℕ → Bool

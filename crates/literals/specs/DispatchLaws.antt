@@ -13,13 +13,12 @@ use Rattle.ending.specs.declared.answer.Answer.{Answer}
 use Rattle.ending.specs.declared.answer.Answer.the-variants.{Done, TooBig}
 use Rattle.slots.specs.Slots.{putIn, top, lower}
 use Rattle.slots.specs.LimitLaws.{Within}
-use Rattle.calculator.specs.declared.two.Operands.{Operands}
-use Rattle.calculator.specs.Literals.{Operation, one, two, Row, operationOf, takes, leaves}
-use Rattle.calculator.specs.Reports.{notInTable, noRoomFor, malformedOperand, isTooBig, tooBig, reportOf}
-use Rattle.calculator.specs.ReportLaws.{Reached, report-2, report-4, report-3, report-6, report-0}
-use Rattle.calculator.specs.Operate.{stored, bytesAfter}
-use Rattle.calculator.specs.OperateLaws.{operate-refused, operate-done}
-use Rattle.calculator.specs.Dispatch.{ofOne, RowRead, Stepped, TwoRead, storedOf}
+use Rattle.literals.specs.Literals.{Operation, one, two, Row, operationOf, takes, leaves}
+use Rattle.literals.specs.Reports.{notInTable, noRoomFor, malformedOperand, isTooBig, tooBig, reportOf}
+use Rattle.literals.specs.ReportLaws.{Reached, report-2, report-4, report-3, report-6, report-0}
+use Rattle.literals.specs.Operate.{stored, bytesAfter}
+use Rattle.literals.specs.OperateLaws.{operate-refused, operate-done}
+use Rattle.literals.specs.Dispatch.{ofOne, RowRead, Stepped, storedOf}
 
 -- a refusal with the number k + 1 is a step
 pub refused : (s : List ℕ) (d l : ℕ) {k : ℕ} → Within s d → reportOf s d l ≡ suc k → Stepped s d l (suc k) d s

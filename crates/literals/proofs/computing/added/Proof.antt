@@ -1,8 +1,8 @@
 -- `added` meets its contract: its test is the definition's.
 use mathlib.Core.Path.{sym, _∙_}
 use borrow.Author.Tests.{eq-eqb, ne-eqb}
-use Rattle.calculator.proofs.two.added.Statement.{statement}
-use Rattle.calculator.proofs.two.added.Tie as tie
+use Rattle.literals.proofs.computing.added.Statement.{statement}
+use Rattle.literals.proofs.computing.added.Tie as tie
 
 pub added-spec : {M : Type 1} → statement M
 added-spec =

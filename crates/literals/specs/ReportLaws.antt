@@ -5,8 +5,8 @@ use mathlib.Core.Bool.{true, false}
 use mathlib.Core.List.{List}
 use borrow.Author.Tests.{lt-ltb, le-ltb}
 use Rattle.slots.specs.LimitLaws.{Within, within}
-use Rattle.calculator.specs.Literals.{operationOf, takes}
-use Rattle.calculator.specs.Reports.{notInTable, noRoomFor, malformedOperand, tooBig, reportOf}
+use Rattle.literals.specs.Literals.{operationOf, takes}
+use Rattle.literals.specs.Reports.{notInTable, noRoomFor, malformedOperand, tooBig, reportOf}
 
 module _ (s : List ℕ) (d l : ℕ) where
   pub report-5 : Within s d → notInTable (operationOf l) ≡ true → reportOf s d l ≡ 5
