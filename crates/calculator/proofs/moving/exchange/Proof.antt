@@ -1,7 +1,10 @@
 -- `exchange` meets its contract: both are read before either is put into the other's slot.
 use borrow.Author.Needs.{needs}
-use mathlib.Core.Path.{refl, sym}
+use Prim.Native.Nat.{ℕ, _-_}
+use mathlib.Core.Path.{refl, sym, _∙_, ap, ap₂}
+use mathlib.Core.List.{List}
 use native.Mathlib.Omega.{arith}
+use Rattle.slots.specs.Slots.{putSlot}
 use Rattle.literals.specs.Reports.{notInTable, noRoomFor, malformedOperand, tooBig}
 use Rattle.literals.specs.Operate.{bytesAfter}
 use Rattle.literals.specs.DispatchLaws.{refused-2, accepted}
@@ -21,12 +24,11 @@ returns-2 c l h =
     let e = lower .before .before in
     let i = e .before .before .before in
     accepted _ _ l _ (i .pre .0) (record { line = h; takes = i .pre .1 .0; leaves = i .pre .1 .1 }) refl (e .if1 .left) refl refl refl (omega (arith, i .pre, e .if1)) _
-    (sym (simp (
-      c .before .before .put-five2 .ensures,
-      c .before .before .before .before .before .before .put-five .ensures,
-      c .before .before .before .before .before .before .before .before .five-in2 .ensures,
-      lower .five-in .ensures,
-    )))
+    (sym (c .before .before .put-five2 .ensures
+    ∙ ap₂ (λ (t five : List ℕ). putSlot t (i .args .depth .now - 1) five)
+    (c .before .before .before .before .before .before .put-five .ensures
+    ∙ ap (putSlot (i .args .stack .now) (i .args .depth .now - 2)) (c .before .before .before .before .before .before .before .before .five-in2 .ensures))
+    (lower .five-in .ensures)))
 
 pub exchange-spec : {M : Type 1} → statement M
 exchange-spec =
