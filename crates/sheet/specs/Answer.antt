@@ -1,4 +1,4 @@
--- "For each step one line out: the report, the depth, the top's five bytes in hex (`-` at depth 0)." As ASCII: space is 32, `-` 45, `?` 63, the
+-- A step is answered by one line: the report, the depth, the top's five bytes in hex (`-` at depth 0). As ASCII: space is 32, `-` 45, `?` 63, the
 -- line feed 10.
 use Prim.Native.Nat.{ℕ}
 use mathlib.Core.Bool.{cond}

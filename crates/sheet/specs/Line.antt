@@ -11,7 +11,7 @@ use Rattle.sheet.specs.Blanks.{textOf}
 use Rattle.sheet.specs.Literals.{literalOf}
 use Rattle.sheet.specs.Numbers.{numberFrom}
 
--- "blank lines and lines that begin with `#` are passed over"
+-- Blank lines and lines that begin with `#` are passed over.
 unfoldable pub said : List ℕ → Line
 said s =
     cond (eqb (length s) 0) Nothing

@@ -16,7 +16,7 @@ unfoldable pub decimalFrom : ℕ → List ℕ → ℕ
 decimalFrom v [] = v
 decimalFrom v (c ∷ cs) = cond (ltb 9 (valueOf c)) 256 (decimalFrom (10 * (v % 100) + valueOf c) cs)
 
--- "a literal in decimal": one to three digits
+-- a literal in decimal: one to three digits
 unfoldable pub decimalIn : List ℕ → ℕ
 decimalIn s = cond (ltb 3 (length s)) 256 (decimalFrom 0 s)
 

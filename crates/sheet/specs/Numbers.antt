@@ -1,4 +1,4 @@
--- "A number of five bytes in hex (a push, spaces between bytes optional)": ten digits; blanks may stand before each two
+-- A number of five bytes in hex, which is pushed: ten digits; blanks may stand before each two
 -- and after the last.
 use Prim.Native.Nat.{ℕ, _+_, _*_, _/_, _%_, _^_, _<_, _≤_}
 use mathlib.Core.Path.{_≡_}
