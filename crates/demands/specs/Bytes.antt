@@ -1,17 +1,32 @@
--- The bytes that an accepted operation leaves, slot by slot.
+-- The bytes of a stack, and those that an accepted operation leaves, slot by slot.
 use Prim.Native.Nat.{ℕ, _+_, _*_, _≤_, _<_}
 use mathlib.Core.Path.{_≡_, refl}
-use mathlib.Core.Bool.{false}
+use mathlib.Core.Bool.{true, false}
 use mathlib.Core.List.{List}
 use native.Mathlib.Omega.{arith}
 use lib.ListN.{length, getD}
 use Rattle.number.specs.declared.Number.{Number}
+use Rattle.number.specs.NumberLaws.{Bytes}
 use Rattle.ending.specs.declared.answer.Answer.{Answer}
 use Rattle.ending.specs.declared.answer.Answer.the-variants.{Done, TooBig}
-use Rattle.slots.specs.Slots.{slot, putSlot}
+use Rattle.slots.specs.Slots.{slot, numberIn, putSlot}
 use Rattle.slots.specs.SlotLaws.{length-putSlot}
 use Rattle.literals.specs.Reports.{isTooBig}
 use Rattle.demands.specs.SlotFacts.{put-slot, put-elsewhere}
+
+-- every byte of the stack is below 256
+abbrev pub AreBytes : List ℕ → Type 0
+AreBytes s = (k : ℕ) → k < length s → getD s k 0 < 256
+
+-- and so the numbers in its slots are made of bytes
+pub number-bytes : (s : List ℕ) → AreBytes s → (i : ℕ) → 5 * i + 5 ≤ length s → Bytes (numberIn s i)
+unfolding numberIn
+number-bytes s b i h =
+    let b2 = b (5 * i + 1) (omega arith) in
+    let b3 = b (5 * i + 2) (omega arith) in
+    let b4 = b (5 * i + 3) (omega arith) in
+    let b5 = b (5 * i + 4) (omega arith) in
+    record { b1< = b (5 * i) (omega arith); word< = omega arith }
 
 -- s′ is s with the bytes v in slot i, and every other byte as it was
 pub record Only (s s′ : List ℕ) (i : ℕ) (v : List ℕ) : Type 0 where
@@ -32,3 +47,8 @@ pub number-of : (a : Answer) → isTooBig a ≡ false → (n : Number) × (a ≡
 unfolding isTooBig
 number-of (Done n) h = (n, refl)
 number-of TooBig h = absurd (let z : _≡_ {A = ℕ} 0 1 = cc in omega arith)
+
+pub is-too-big : (a : Answer) → isTooBig a ≡ true → a ≡ TooBig
+unfolding isTooBig
+is-too-big TooBig h = refl
+is-too-big (Done n) h = absurd (let z : _≡_ {A = ℕ} 0 1 = cc in omega arith)

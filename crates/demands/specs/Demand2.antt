@@ -36,7 +36,7 @@ literals = (refl, refl, refl, refl, refl, refl, refl, refl, refl, refl)
 module _ (s : List ℕ) (d l : ℕ) (ok : reportOf s d l ≡ 0) where
   -- what is known of an accepted literal: the numbers that it takes stand within the stack
   stands : (o : Operation) → operationOf l ≡ o → (takesOf o ≤ d) × (5 * d ≤ length s)
-  stands o e = let w = within s d l (accepted s d l ok) in let t = takes-are l ∙ ap takesOf e in (omega arith, w .1)
+  stands o e = let w = within s d l (accepted s d l .0 ok .0) in let t = takes-are l ∙ ap takesOf e in (omega arith, w .1)
 
   left : operateOf s d l .1 ≡ bytesAfter (operationOf l) s d
   left = ap (λ x. x .1) (operate-done s d l ok)
@@ -50,7 +50,7 @@ module _ (s : List ℕ) (d l : ℕ) (ok : reportOf s d l ≡ 0) where
       → (n : Number) × (f (lower s d) (top s d) ≡ Done n) × Only s (operateOf s d l .1) (d - 2) (bytesOf n)
   unfolding tooBig bytesAfter stored bytesOf
   after-two f e =
-      let a = number-of (f (lower s d) (top s d)) (simp e at (accepted s d l ok .small)) in
+      let a = number-of (f (lower s d) (top s d)) (simp e at (accepted s d l .0 ok .1)) in
       (a .0, a .1, rw left (simp (e, a .1) (only-put s (d - 2) (bytesOf (a .0)) (omega (arith, stands (two f) e)) refl)))
 
   -- for negate, int, truncate and re-stack
@@ -58,7 +58,7 @@ module _ (s : List ℕ) (d l : ℕ) (ok : reportOf s d l ≡ 0) where
       → (n : Number) × (f (top s d) ≡ Done n) × Only s (operateOf s d l .1) (d - 1) (bytesOf n)
   unfolding tooBig bytesAfter stored bytesOf
   after-one f e =
-      let a = number-of (f (top s d)) (simp e at (accepted s d l ok .small)) in
+      let a = number-of (f (top s d)) (simp e at (accepted s d l .0 ok .1)) in
       (a .0, a .1, rw left (simp (e, a .1) (only-put s (d - 1) (bytesOf (a .0)) (omega (arith, stands (one f) e)) refl)))
 
   -- "2 changes no byte"
@@ -70,7 +70,7 @@ module _ (s : List ℕ) (d l : ℕ) (ok : reportOf s d l ≡ 0) where
   pub after-duplicate : operationOf l ≡ duplicate → Only s (operateOf s d l .1) d (slot s (d - 1))
   unfolding bytesAfter noRoomFor noRoom
   after-duplicate e =
-      let r = ltb-false (length s) (5 * (d + 1)) (simp e at (accepted s d l ok .room)) in
+      let r = ltb-false (length s) (5 * (d + 1)) (simp e at (accepted s d l .0 ok .0 .room)) in
       rw left (simp e (only-put s d (slot s (d - 1)) (omega arith) (length-slot s (d - 1) (omega (arith, stands duplicate e)))))
 
   -- "1 swaps": each slot has the other's five bytes, and every byte outside the two is as it was

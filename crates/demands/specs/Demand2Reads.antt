@@ -65,7 +65,7 @@ module _ (d : ℕ) (s s′ : List ℕ) (a : Agree d s s′) where
       rw (← report-same l)
       (settled-alike (reportOf s d l) (d - takes l + leaves l) (bytesAfter (operationOf l) s d) (bytesAfter (operationOf l) s′ d)
       (λ ok.
-      let y = accepted s d l ok in
+      let y = accepted s d l .0 ok .0 in
       let w = within s d l y in
       rw (takes-are l, leaves-are l) (bytes-agree d s s′ a (w .1) (operationOf l) (omega (arith, takes-are l)) (y .room))))
 

@@ -1,6 +1,6 @@
 -- What a slot is read as, what putting five bytes into it changes, byte by byte, and what that leaves. Byte k is in slot k / 5.
 use Prim.Native.Nat.{ℕ, _+_, _*_, _/_, _%_, _≤_, _<_}
-use mathlib.Core.Path.{_≡_, refl, sym, _∙_, ap}
+use mathlib.Core.Path.{_≡_, sym, _∙_, ap}
 use mathlib.Core.List.{List, _++_, append-assoc}
 use native.Mathlib.Omega.{arith}
 use lib.ListN.{length, getD, take, drop, List·getD-append}
@@ -8,8 +8,8 @@ use lib.Seq.{drop-at, take-at, length-take-le, getD-drop, getD-set-other}
 use Rattle.number.specs.declared.Number.{Number}
 use Rattle.number.specs.Number.{b2, b3, b4, b5, wordOf}
 use Rattle.number.specs.NumberLaws.{places}
-use Rattle.slots.specs.Slots.{slot, numberIn, bytesOf, putSlot, putIn}
-use Rattle.slots.specs.SlotLaws.{five-stores, slot-five, length-putSlot, five-of}
+use Rattle.slots.specs.Slots.{slot, numberIn, bytesOf, putSlot}
+use Rattle.slots.specs.SlotLaws.{five-stores, slot-five, five-of}
 
 -- the four bytes of a word make the word
 word-of : (n : Number) → wordOf (b2 n) (b3 n) (b4 n) (b5 n) ≡ n .word
@@ -64,10 +64,8 @@ module _ (s : List ℕ) (i : ℕ) (h : 5 * i + 5 ≤ length s) where
         let n4 : k ≡ 5 * i + 4 → ⊥ = λ e. o (omega arith) (omega arith) in
         rw (← five-of five f, ← five-stores s i h _ _ _ _ _) (simp getD-set-other)
 
--- a number that is put into a slot is read from it
-pub put-there : (s : List ℕ) (i : ℕ) → 5 * i + 5 ≤ length s → (n : Number) → numberIn (putIn s i n) i ≡ n
+-- a number whose five bytes are in a slot is read from it
+pub number-there : (s : List ℕ) (i : ℕ) → 5 * i + 5 ≤ length s → (n : Number) → slot s i ≡ bytesOf n → numberIn s i ≡ n
 unfolding numberIn bytesOf
-put-there s i h n =
-    number-slot (putIn s i n) i (omega (arith, length-putSlot s i h (bytesOf n) refl))
-    ∙ ap (λ (five : List ℕ). numberIn five 0) (put-slot s i h (bytesOf n) refl)
-    ∙ ap (λ (w : ℕ). record { b1 = n .b1; word = w }) (word-of n)
+number-there s i h n e =
+    number-slot s i h ∙ ap (λ (five : List ℕ). numberIn five 0) e ∙ ap (λ (w : ℕ). record { b1 = n .b1; word = w }) (word-of n)

@@ -33,15 +33,12 @@ module _ (m n : ℕ) where
   Exception = (m < n) × (n ≤ 2 * R)
 
   -- "the result's exponent byte is E and its mantissa is the exact one rounded to nearest, halves up, except exactly when [..]: there it is one lower"
-  pub record Result (E : ℕ) (answer : Answer) : Type 0 where
-    pub number : Number
-    pub given : answer ≡ Done number
+  pub record Result (E : ℕ) (number : Number) : Type 0 where
     pub exponent : number .b1 ≡ E
     pub rounded : ¬ Exception → mantissa number ≡ nearest exact n
     pub one-lower : Exception → mantissa number + 1 ≡ nearest exact n
 
-  -- E is any natural number with E + b = a + `added`; below 0 there is none.
-  pub record Demand3 (a b : ℕ) (answer : Answer) : Type 0 where
+  pub record Digits : Type 0 where
     -- "M and N, whole numbers from 2^31 to 2^32 - 1"
     pub m-low : 2 ^ 31 ≤ m
     pub m-high : m < 2 ^ 32
@@ -50,7 +47,11 @@ module _ (m n : ℕ) where
     -- "The digits of the listing's 33 trial subtractions write the whole quotient of M times 2^32 by N, with a remainder R below N."
     pub quotient : rounds33 m n .digits * n + R ≡ m * 2 ^ 32
     pub remainder : R < n
+
+  -- E is any natural number with E + b = a + `added`; below 0 there is none.
+  pub record Demand3 (a b : ℕ) (answer : Answer) : Type 0 where
+    pub digits : Digits
     -- "Division gives report 6 exactly when E is above 255."
     pub report6 : (answer ≡ TooBig) ↔ (255 + b < a + added)
     -- "When E is 1 to 255, [the result]"
-    pub result : (E : ℕ) → E + b ≡ a + added → 1 ≤ E → E ≤ 255 → Result E answer
+    pub result : (E : ℕ) → E + b ≡ a + added → 1 ≤ E → E ≤ 255 → (number : Number) × (answer ≡ Done number) × Result E number

@@ -10,7 +10,7 @@ use lib.Arith.{digits-div}
 use borrow.Author.Tests.{ltb-true, ltb-false, lt-ltb, le-ltb}
 use Rattle.number.specs.declared.Number.{Number}
 use Rattle.number.specs.Number.{mantissa, fullOf}
-use Rattle.number.specs.NumberLaws.{mantissa-full}
+use Rattle.number.specs.NumberLaws.{Bytes, mantissa-full}
 use Rattle.number.specs.Restack.{restacked}
 use Rattle.ending.specs.declared.answer.Answer.{Answer}
 use Rattle.ending.specs.Ending.{Loose, loose, rounded, closed}
@@ -19,7 +19,7 @@ use Rattle.division.specs.Rounds.{rounds33}
 use Rattle.division.specs.RoundsLaws.{Writes, writes-at-least, writes-below}
 use Rattle.division.specs.Division.{endedRounds, fullQuotient, quotientOf}
 use Rattle.division.specs.DivisionLaws.{Mantissas, rounds33-write, rounds33-low, rounds33-below, ended-doubled, ended-whole, quotient-full}
-use Rattle.division.specs.Operand.{Operand, restacked-full}
+use Rattle.division.specs.Operand.{Operand, IsFull, restacked-full}
 use Rattle.division.specs.Demand3.{nearest, added, exact, R, Exception, Demand3}
 
 -- v / n rounded, where twice v and n over are c times n and a rest
@@ -99,33 +99,40 @@ module _ (s a b m n : ℕ) (are : Mantissas m n) (bh : b < 256) where
       let e = ends in
       let l = e .l in
       record {
-        m-low = are .m-low;
-        m-high = are .m-high;
-        n-low = are .n-low;
-        n-high = are .n-high;
-        quotient = writes .whole;
-        remainder = writes .less;
+        digits =
+            record {
+              m-low = are .m-low;
+              m-high = are .m-high;
+              n-low = are .n-low;
+              n-high = are .n-high;
+              quotient = writes .whole;
+              remainder = writes .less;
+            };
         report6 = (
           (λ big. omega (arith, closed-too-big-only s l (sym (e .is) ∙ big))),
           (λ big. e .is ∙ closed-too-big s l (omega arith)),
         );
         result = λ E is one top.
-            let same = mantissa-full s (l .e - 256) (rounded l) (e .low) (e .high) in
-            record {
-              number = fullOf s (l .e - 256) (rounded l);
-              given = e .is ∙ closed-stored s l (omega arith) (omega arith);
-              exponent = omega arith;
-              rounded = λ no-exception. same ∙ e .as-nearest no-exception;
-              one-lower = λ exception. ap (λ (k : ℕ). k + 1) same ∙ e .below-nearest exception;
-            };
+            let same = mantissa-full s (l .e - 256) (rounded l) (e .low) (e .high) in (
+              fullOf s (l .e - 256) (rounded l),
+              e .is ∙ closed-stored s l (omega arith) (omega arith),
+              record {
+                exponent = omega arith;
+                rounded = λ no-exception. same ∙ e .as-nearest no-exception;
+                one-lower = λ exception. ap (λ (k : ℕ). k + 1) same ∙ e .below-nearest exception;
+              },
+            );
       }
+
+-- of any two numbers that are full once they are re-stacked
+pub full-demand3 :
+    (x y : Number) → IsFull (restacked x) → IsFull (restacked y) →
+    Demand3 (mantissa (restacked x)) (mantissa (restacked y)) (restacked x .b1) (restacked y .b1) (quotientOf x y)
+unfolding fullQuotient
+full-demand3 x y f g = rw (quotient-full x y f g) (plain-demand3 _ _ _ _ _ (omega arith) (omega arith))
 
 -- Demand 3: of any two well-formed operands, neither counting as zero.
 pub demand3 :
-    (x y : Number) → Operand x → Operand y →
+    (x y : Number) → Bytes x → Bytes y → Operand x → Operand y →
     Demand3 (mantissa (restacked x)) (mantissa (restacked y)) (restacked x .b1) (restacked y .b1) (quotientOf x y)
-unfolding fullQuotient
-demand3 x y ox oy =
-    let f = restacked-full x ox in
-    let g = restacked-full y oy in
-    rw (quotient-full x y f g) (plain-demand3 _ _ _ _ _ (omega arith) (omega arith))
+demand3 x y bx by ox oy = full-demand3 x y (restacked-full x bx (ox .not-zero)) (restacked-full y by (oy .not-zero))

@@ -11,7 +11,6 @@ use Rattle.number.specs.RestackValue.{restacked-bytes, restacked-zero}
 
 -- "any two well-formed operands [..], neither counting as zero"; document 01: "Counts as zero" means re-stacked to five zero bytes.
 pub record Operand (x : Number) : Type 0 where
-  pub bytes : Bytes x
   pub well-formed : ¬ (formOf x ≡ Malformed)
   pub not-zero : ¬ (restacked x ≡ zeros)
 
@@ -19,7 +18,7 @@ pub record IsFull (x : Number) : Type 0 where
   pub bytes : Bytes x
   pub first : 0 < x .b1
 
-pub restacked-full : (x : Number) → Operand x → IsFull (restacked x)
-restacked-full x o =
-    let other : ¬ (restacked x .b1 ≡ 0) = λ h. o .not-zero (restacked-zero x (o .bytes) h) in
-    record { bytes = restacked-bytes x (o .bytes); first = omega arith }
+pub restacked-full : (x : Number) → Bytes x → ¬ (restacked x ≡ zeros) → IsFull (restacked x)
+restacked-full x b n =
+    let other : ¬ (restacked x .b1 ≡ 0) = λ h. n (restacked-zero x b h) in
+    record { bytes = restacked-bytes x b; first = omega arith }
