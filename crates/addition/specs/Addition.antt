@@ -56,10 +56,14 @@ unfoldable pub endedSum : ℤ → ℕ → Answer
 endedSum z e = cond (leb (2 ^ 32) (natAbs z)) (carried z e) (endedWhole z e)
 
 -- "Let e be the larger exponent byte and s the difference. ... Add." The number with the larger exponent byte has no difference.
+abbrev pub larger : Number → Number → ℕ
+larger x y = max (x .b1) (y .b1)
+
+abbrev pub wholeSum : Number → Number → ℤ
+wholeSum x y = aligned (larger x y - x .b1) (signedMantissa x) +ℤ aligned (larger x y - y .b1) (signedMantissa y)
+
 unfoldable pub alignedSum : Number → Number → Answer
-alignedSum x y =
-    let e = max (x .b1) (y .b1) in
-    endedSum (aligned (e - x .b1) (signedMantissa x) +ℤ aligned (e - y .b1) (signedMantissa y)) e
+alignedSum x y = endedSum (wholeSum x y) (larger x y)
 
 -- "Re-stack both"
 unfoldable pub fullRoute : Number → Number → Answer

@@ -2,4 +2,5 @@ pub mod Addition
 pub mod SignedLaws
 pub mod AdditionLaws
 pub mod ShortRouteLaws
+pub mod TooBig
 pub mod Sums

@@ -1,5 +1,5 @@
 -- The bytes of a stack, and those that an accepted operation leaves, slot by slot.
-use Prim.Native.Nat.{ℕ, _+_, _*_, _≤_, _<_}
+use Prim.Native.Nat.{ℕ, _+_, _-_, _*_, _≤_, _<_}
 use mathlib.Core.Path.{_≡_, refl}
 use mathlib.Core.Bool.{true, false}
 use mathlib.Core.List.{List}
@@ -11,22 +11,25 @@ use Rattle.ending.specs.declared.answer.Answer.{Answer}
 use Rattle.ending.specs.declared.answer.Answer.the-variants.{Done, TooBig}
 use Rattle.slots.specs.Slots.{slot, numberIn, putSlot}
 use Rattle.slots.specs.SlotLaws.{length-putSlot}
+use Rattle.literals.specs.Literals.{takes}
 use Rattle.literals.specs.Reports.{isTooBig}
 use Rattle.demands.specs.SlotFacts.{put-slot, put-elsewhere}
+use Rattle.demands.specs.Accepted.{Passed, within}
 
 -- every byte of the stack is below 256
 abbrev pub AreBytes : List ℕ → Type 0
 AreBytes s = (k : ℕ) → k < length s → getD s k 0 < 256
 
--- and so the numbers in its slots are made of bytes
-pub number-bytes : (s : List ℕ) → AreBytes s → (i : ℕ) → 5 * i + 5 ≤ length s → Bytes (numberIn s i)
+-- and so each number that a literal takes, the k-th from the top, is made of bytes
+pub operand-bytes : (s : List ℕ) (d l k : ℕ) → AreBytes s → Passed s d l → 1 ≤ k → k ≤ takes l → Bytes (numberIn s (d - k))
 unfolding numberIn
-number-bytes s b i h =
-    let b2 = b (5 * i + 1) (omega arith) in
-    let b3 = b (5 * i + 2) (omega arith) in
-    let b4 = b (5 * i + 3) (omega arith) in
-    let b5 = b (5 * i + 4) (omega arith) in
-    record { b1< = b (5 * i) (omega arith); word< = omega arith }
+operand-bytes s d l k b p g h =
+    let w = within s d l p in
+    let b2 = b (5 * (d - k) + 1) (omega arith) in
+    let b3 = b (5 * (d - k) + 2) (omega arith) in
+    let b4 = b (5 * (d - k) + 3) (omega arith) in
+    let b5 = b (5 * (d - k) + 4) (omega arith) in
+    record { b1< = b (5 * (d - k)) (omega arith); word< = omega arith }
 
 -- s′ is s with the bytes v in slot i, and every other byte as it was
 pub record Only (s s′ : List ℕ) (i : ℕ) (v : List ℕ) : Type 0 where

@@ -2,40 +2,33 @@
 use Prim.Native.Nat.{ℕ, _+_, _-_, _*_, _≤_, _<_}
 use mathlib.Core.Path.{_≡_, refl, sym, _∙_, ap, subst⁻¹}
 use mathlib.Core.Logic.{_↔_}
-use mathlib.Core.Bool.{false}
 use mathlib.Core.List.{List}
 use native.Mathlib.Omega.{arith}
 use lib.ListN.{length, getD}
-use borrow.Author.Tests.{le-ltb}
 use Rattle.number.specs.declared.Number.{Number}
-use Rattle.number.specs.declared.form.Form.{Form}
-use Rattle.number.specs.declared.form.Form.the-variants.{Full, Short, Odd, Malformed}
-use Rattle.number.specs.Number.{formOf, isMalformed, malformed, mantissa}
-use Rattle.number.specs.Restack.{restacked}
+use Rattle.number.specs.Number.{mantissa}
+use Rattle.number.specs.Restack.{restacked, CountsAsZero}
 use Rattle.ending.specs.declared.answer.Answer.the-variants.{Done}
 use Rattle.division.specs.Division.{quotientOf}
-use Rattle.division.specs.Operand.{Operand}
 use Rattle.division.specs.Demand3.{added, Digits, Result, Demand3}
 use Rattle.division.specs.Demand3Laws.{demand3}
 use Rattle.slots.specs.declared.outcome.Outcome.{Outcome}
 use Rattle.slots.specs.Slots.{numberIn, lower, top}
-use Rattle.slots.specs.LimitLaws.{Within, within}
 use Rattle.literals.specs.Literals.{rowOf, operationOf, takes, leaves}
-use Rattle.literals.specs.Reports.{notInTable, noRoomFor, malformedOperand, isTooBig, tooBig, reportOf}
+use Rattle.literals.specs.Reports.{isTooBig, tooBig}
 use Rattle.literals.specs.Operate.{operateOf}
 use Rattle.demands.specs.SlotFacts.{number-there}
-use Rattle.demands.specs.Accepted.{Passed, accepted, too-big}
-use Rattle.demands.specs.Bytes.{AreBytes, number-bytes, is-too-big}
+use Rattle.demands.specs.Accepted.{Passed, accepted, too-big, within}
+use Rattle.demands.specs.Bytes.{AreBytes, operand-bytes, is-too-big}
 use Rattle.demands.specs.Demand1.{operation-report}
 use Rattle.demands.specs.Demand2.{new-depth, after-two}
 
--- "any two well-formed operands of a division that no report before 6 refuses, neither counting as zero"
+-- "any two well-formed operands of a division that no report before 6 refuses, neither counting as zero": a malformed one is report 3
 pub record Divides (s : List ℕ) (d : ℕ) : Type 0 where
   pub bytes : AreBytes s
-  pub limits : Within s d
-  pub deep : 2 ≤ d
-  pub dividend : Operand (lower s d)
-  pub divisor : Operand (top s d)
+  pub passed : Passed s d 5
+  pub dividend : ¬ CountsAsZero (lower s d)
+  pub divisor : ¬ CountsAsZero (top s d)
 
 module _ (s : List ℕ) (d : ℕ) where
   -- "Re-stacked, they have mantissas M and N"
@@ -65,49 +58,24 @@ module _ (s : List ℕ) (d : ℕ) where
     -- "When E is 1 to 255, [the result]"
     pub left : (E : ℕ) → E + restacked (top s d) .b1 ≡ restacked (lower s d) .b1 + added M N → 1 ≤ E → E ≤ 255 → Left E
 
-formed : (x : Number) → (formOf x ≡ Malformed → ⊥) → malformed x ≡ false
-unfolding malformed
-formed x n = go (formOf x) refl
-  where
-    go : (f : Form) → formOf x ≡ f → isMalformed f ≡ false
-    go Full e = refl
-    go Short e = refl
-    go Odd e = refl
-    go Malformed e = absurd (n e)
-
 module _ (s : List ℕ) (d : ℕ) (h : Divides s d) where
   clauses : Demand3 (M s d) (N s d) (restacked (lower s d) .b1) (restacked (top s d) .b1) (quotientOf (lower s d) (top s d))
+  unfolding takes rowOf
   clauses =
-      let w = h .limits in
-      demand3 (lower s d) (top s d) (number-bytes s (h .bytes) (d - 2) (omega (arith, h .deep))) (number-bytes s (h .bytes) (d - 1) (omega (arith, h .deep)))
-      (h .dividend) (h .divisor)
-
-  rows : Passed s d 5
-  unfolding operationOf rowOf notInTable takes noRoomFor malformedOperand
-  rows =
-      record {
-        limits = within s d (h .limits);
-        known = refl;
-        enough = le-ltb d 2 (h .deep);
-        room = refl;
-        formed = simp (formed (lower s d) (h .dividend .well-formed), formed (top s d) (h .divisor .well-formed));
-      }
-
-  done : (n : Number) → quotientOf (lower s d) (top s d) ≡ Done n → reportOf s d 5 ≡ 0
-  unfolding operationOf rowOf tooBig isTooBig
-  done n e = accepted s d 5 .1 (rows, ap isTooBig e)
+      demand3 (lower s d) (top s d) (operand-bytes s d 5 2 (h .bytes) (h .passed) (omega arith) (omega arith))
+      (operand-bytes s d 5 1 (h .bytes) (h .passed) (omega arith) (omega arith)) (h .dividend) (h .divisor)
 
   is-left : (E : ℕ) (n : Number) → quotientOf (lower s d) (top s d) ≡ Done n → Result (M s d) (N s d) E n → Left s d E
-  unfolding operationOf rowOf takes leaves
+  unfolding operationOf rowOf takes leaves tooBig isTooBig
   is-left E n e r =
-      let ok = done n e in
+      let ok = accepted s d 5 .1 (h .passed, ap isTooBig e) in
+      let w = within s d 5 (h .passed) in
       let a = after-two s d 5 ok quotientOf refl in
       let same : a .0 ≡ n = cc (a .1, e) in
-      let there : numberIn (divided s d .1) (d - 2) ≡ n =
-      number-there (divided s d .1) (d - 2) (omega (arith, a .2 .long, h .limits .deep, h .deep)) (a .0) (a .2 .there) ∙ same in
+      let there : numberIn (divided s d .1) (d - 2) ≡ n = number-there (divided s d .1) (d - 2) (omega (arith, a .2 .long)) (a .0) (a .2 .there) ∙ same in
       record {
         report = operation-report s d 5 ∙ ok;
-        depth = new-depth s d 5 ok ∙ omega (arith, h .deep);
+        depth = new-depth s d 5 ok ∙ omega arith;
         result = subst⁻¹ (Result (M s d) (N s d) E) there r;
         long = a .2 .long;
         elsewhere = a .2 .elsewhere;
@@ -121,7 +89,7 @@ module _ (s : List ℕ) (d : ℕ) (h : Divides s d) where
         digits = clauses .digits;
         report6 = (
           (λ r. clauses .report6 .0 (is-too-big _ (too-big s d 5 .0 (sym (operation-report s d 5) ∙ r) .1))),
-          (λ e. operation-report s d 5 ∙ too-big s d 5 .1 (rows, ap isTooBig (clauses .report6 .1 e))),
+          (λ e. operation-report s d 5 ∙ too-big s d 5 .1 (h .passed, ap isTooBig (clauses .report6 .1 e))),
         );
         left = λ E is one most. let r = clauses .result E is one most in is-left E (r .0) (r .1) (r .2);
       }

@@ -2,12 +2,13 @@
 -- and b their exponent bytes.
 use mathlib.Core.Path.{_≡_}
 use mathlib.Core.Bool.{cond}
-use mathlib.Core.Logic.{_↔_}
+use mathlib.Core.Logic.{_↔_, _⊎_}
 use Prim.Native.Nat.{ℕ, _+_, _*_, _^_, _/_, _≤_, _<_}
 use lib.Dec.{ltb}
 use Rattle.number.specs.declared.Number.{Number}
 use Rattle.number.specs.Number.{mantissa}
-use Rattle.division.specs.Rounds.{rounds33}
+use Rattle.number.specs.Restack.{restacked, CountsAsZero}
+use Rattle.division.specs.Rounds.{Mantissas, rounds33}
 use Rattle.ending.specs.declared.answer.Answer.{Answer}
 use Rattle.ending.specs.declared.answer.Answer.the-variants.{Done, TooBig}
 
@@ -39,11 +40,7 @@ module _ (m n : ℕ) where
     pub one-lower : Exception → mantissa number + 1 ≡ nearest exact n
 
   pub record Digits : Type 0 where
-    -- "M and N, whole numbers from 2^31 to 2^32 - 1"
-    pub m-low : 2 ^ 31 ≤ m
-    pub m-high : m < 2 ^ 32
-    pub n-low : 2 ^ 31 ≤ n
-    pub n-high : n < 2 ^ 32
+    pub mantissas : Mantissas m n
     -- "The digits of the listing's 33 trial subtractions write the whole quotient of M times 2^32 by N, with a remainder R below N."
     pub quotient : rounds33 m n .digits * n + R ≡ m * 2 ^ 32
     pub remainder : R < n
@@ -55,3 +52,9 @@ module _ (m n : ℕ) where
     pub report6 : (answer ≡ TooBig) ↔ (255 + b < a + added)
     -- "When E is 1 to 255, [the result]"
     pub result : (E : ℕ) → E + b ≡ a + added → 1 ≤ E → E ≤ 255 → (number : Number) × (answer ≡ Done number) × Result E number
+
+-- "number too big: division when the divisor counts as zero, or an exponent byte above 255": where neither counts as zero, E's
+abbrev pub QuotientTooBig : Number → Number → Type 0
+QuotientTooBig x y =
+    CountsAsZero y
+    ⊎ ((¬ CountsAsZero x) × (¬ CountsAsZero y) × (255 + restacked y .b1 < restacked x .b1 + added (mantissa (restacked x)) (mantissa (restacked y))))

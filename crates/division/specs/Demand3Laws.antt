@@ -2,25 +2,28 @@
 -- mantissa is half the quotient, rounded by digit 33.
 use mathlib.Core.Path.{_≡_, refl, sym, ap, _∙_}
 use mathlib.Core.Bool.{Bool, true, false}
+use mathlib.Core.Logic.{_↔_, _⊎_, inl, inr}
 use Prim.Native.Nat.{ℕ, _+_, _*_, _-_, _^_, _/_, _%_, _≤_, _<_}
-use native.Mathlib.Nat.{mul-comm, add-mul, mul-assoc, div-div-eq-div-mul}
+use native.Mathlib.Nat.{mul-comm, add-mul, mul-assoc, div-div-eq-div-mul, eq-zero-or-pos}
 use native.Mathlib.Omega.{arith}
 use lib.Dec.{ltb}
 use lib.Arith.{digits-div}
 use borrow.Author.Tests.{ltb-true, ltb-false, lt-ltb, le-ltb}
 use Rattle.number.specs.declared.Number.{Number}
-use Rattle.number.specs.Number.{mantissa, fullOf}
+use Rattle.number.specs.Number.{zeros, mantissa, fullOf}
 use Rattle.number.specs.NumberLaws.{Bytes, mantissa-full}
-use Rattle.number.specs.Restack.{restacked}
+use Rattle.number.specs.Restack.{restacked, CountsAsZero}
+use Rattle.number.specs.RestackValue.{restacked-zero}
 use Rattle.ending.specs.declared.answer.Answer.{Answer}
+use Rattle.ending.specs.declared.answer.Answer.the-variants.{TooBig}
 use Rattle.ending.specs.Ending.{Loose, loose, rounded, closed}
 use Rattle.ending.specs.EndingLaws.{closed-too-big, closed-too-big-only, closed-stored}
-use Rattle.division.specs.Rounds.{rounds33}
+use Rattle.division.specs.Rounds.{Mantissas, rounds33}
 use Rattle.division.specs.RoundsLaws.{Writes, writes-at-least, writes-below}
 use Rattle.division.specs.Division.{endedRounds, fullQuotient, quotientOf}
-use Rattle.division.specs.DivisionLaws.{Mantissas, rounds33-write, rounds33-low, rounds33-below, ended-doubled, ended-whole, quotient-full}
-use Rattle.division.specs.Operand.{Operand, IsFull, restacked-full}
-use Rattle.division.specs.Demand3.{nearest, added, exact, R, Exception, Demand3}
+use Rattle.division.specs.DivisionLaws.{rounds33-write, rounds33-low, rounds33-below, ended-doubled, ended-whole, quotient-by-zero, quotient-of-zero, quotient-full}
+use Rattle.division.specs.Operand.{restacked-full}
+use Rattle.division.specs.Demand3.{nearest, added, exact, R, Exception, Demand3, QuotientTooBig}
 
 -- v / n rounded, where twice v and n over are c times n and a rest
 nearest-is : (v n c : ℕ) {d : ℕ} → 2 * v + n ≡ c * n + d → d < n → nearest v n ≡ c / 2
@@ -99,15 +102,7 @@ module _ (s a b m n : ℕ) (are : Mantissas m n) (bh : b < 256) where
       let e = ends in
       let l = e .l in
       record {
-        digits =
-            record {
-              m-low = are .m-low;
-              m-high = are .m-high;
-              n-low = are .n-low;
-              n-high = are .n-high;
-              quotient = writes .whole;
-              remainder = writes .less;
-            };
+        digits = record { mantissas = are; quotient = writes .whole; remainder = writes .less };
         report6 = (
           (λ big. omega (arith, closed-too-big-only s l (sym (e .is) ∙ big))),
           (λ big. e .is ∙ closed-too-big s l (omega arith)),
@@ -124,15 +119,28 @@ module _ (s a b m n : ℕ) (are : Mantissas m n) (bh : b < 256) where
             );
       }
 
--- of any two numbers that are full once they are re-stacked
-pub full-demand3 :
-    (x y : Number) → IsFull (restacked x) → IsFull (restacked y) →
-    Demand3 (mantissa (restacked x)) (mantissa (restacked y)) (restacked x .b1) (restacked y .b1) (quotientOf x y)
-unfolding fullQuotient
-full-demand3 x y f g = rw (quotient-full x y f g) (plain-demand3 _ _ _ _ _ (omega arith) (omega arith))
+-- Demand 3: of any two numbers, neither counting as zero.
+module _ (x y : Number) (bx : Bytes x) (by : Bytes y) where
+  pub demand3 : ¬ CountsAsZero x → ¬ CountsAsZero y →
+      Demand3 (mantissa (restacked x)) (mantissa (restacked y)) (restacked x .b1) (restacked y .b1) (quotientOf x y)
+  unfolding fullQuotient
+  demand3 nx ny =
+      let f = restacked-full x bx nx in
+      let g = restacked-full y by ny in
+      rw (quotient-full x y f g) (plain-demand3 _ _ _ _ _ (omega arith) (omega arith))
 
--- Demand 3: of any two well-formed operands, neither counting as zero.
-pub demand3 :
-    (x y : Number) → Bytes x → Bytes y → Operand x → Operand y →
-    Demand3 (mantissa (restacked x)) (mantissa (restacked y)) (restacked x .b1) (restacked y .b1) (quotientOf x y)
-demand3 x y bx by ox oy = full-demand3 x y (restacked-full x bx (ox .not-zero)) (restacked-full y by (oy .not-zero))
+  -- report 6 of any two
+  pub quotient-too-big : (quotientOf x y ≡ TooBig) ↔ QuotientTooBig x y
+  quotient-too-big = ((λ e. only e (eq-zero-or-pos (restacked x .b1)) (eq-zero-or-pos (restacked y .b1))), so)
+    where
+      other : (z : Number) → 0 < z .b1 → ¬ (z ≡ zeros)
+      other z p e = omega (arith, ap (λ (n : Number). n .b1) e)
+
+      only : quotientOf x y ≡ TooBig → (restacked x .b1 ≡ 0) ⊎ (0 < restacked x .b1) → (restacked y .b1 ≡ 0) ⊎ (0 < restacked y .b1) → QuotientTooBig x y
+      only e p (inl z) = inl (restacked-zero y by z)
+      only e (inl z) (inr q) = absurd (let d = quotient-of-zero x y (omega arith) z in let o : _≡_ {A = ℕ} 0 1 = cc in omega arith)
+      only e (inr p) (inr q) = let nx = other (restacked x) p in let ny = other (restacked y) q in inr (nx, ny, demand3 nx ny .report6 .0 e)
+
+      so : QuotientTooBig x y → quotientOf x y ≡ TooBig
+      so (inl z) = quotient-by-zero x y (ap (λ (n : Number). n .b1) z)
+      so (inr (nx, ny, e)) = demand3 nx ny .report6 .1 e

@@ -13,17 +13,10 @@ use Rattle.number.specs.Unpack.{unpackedOf}
 use Rattle.ending.specs.declared.answer.Answer.the-variants.{Done, TooBig}
 use Rattle.ending.specs.Ending.{loose, normal, rounded, closed, ended}
 use Rattle.ending.specs.EndingLaws.{rounded-below, ended-set, ended-once}
-use Rattle.division.specs.Rounds.{rounds33, digit34}
+use Rattle.division.specs.Rounds.{Mantissas, rounds33, digit34}
 use Rattle.division.specs.RoundsLaws.{Writes, quotient-law, writes-div, writes-at-least, writes-below, digit34-zero}
 use Rattle.division.specs.Division.{endedRounds, fullQuotient, restackedQuotient, quotientOf}
 use Rattle.division.specs.Operand.{IsFull}
-
--- "M and N, whole numbers from 2^31 to 2^32 - 1"
-pub record Mantissas (m n : ℕ) : Type 0 where
-  pub m-low : 2 ^ 31 ≤ m
-  pub m-high : m < 2 ^ 32
-  pub n-low : 2 ^ 31 ≤ n
-  pub n-high : n < 2 ^ 32
 
 -- The 33 digits are the whole quotient of m * 2^32 by n: the quotient law at 32 later rounds.
 module _ (m n : ℕ) (are : Mantissas m n) where

@@ -1,8 +1,15 @@
 -- Document 01, "Division (001, 000)": "33 rounds: the first tries to take N from M; each later one doubles what is left and tries again. It goes when
 -- what is left is at least N: digit 1, else digit 0."
 use mathlib.Core.Bool.{cond}
-use Prim.Native.Nat.{ℕ, zero, suc, _+_, _*_, _-_, _%_}
+use Prim.Native.Nat.{ℕ, zero, suc, _+_, _*_, _-_, _^_, _%_, _≤_, _<_}
 use lib.Dec.{leb}
+
+-- "mantissas M and N, whole numbers from 2^31 to 2^32 - 1"
+pub record Mantissas (m n : ℕ) : Type 0 where
+  pub m-low : 2 ^ 31 ≤ m
+  pub m-high : m < 2 ^ 32
+  pub n-low : 2 ^ 31 ≤ n
+  pub n-high : n < 2 ^ 32
 
 -- The digits so far, "read as one binary number, the first digit highest", and what is left.
 pub record Trial : Type 0 where

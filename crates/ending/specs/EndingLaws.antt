@@ -1,5 +1,5 @@
 -- The ending's laws: a law for each way through its definitions.
-use mathlib.Core.Path.{_≡_, refl, _∙_}
+use mathlib.Core.Path.{_≡_, refl, sym, _∙_}
 use mathlib.Core.Logic.{_⊎_, inl, inr}
 use mathlib.Core.Bool.{Bool, true, false, cond}
 use Prim.Native.Nat.{ℕ, zero, suc, _+_, _*_, _-_, _^_, _%_, _≤_, _<_}
@@ -112,6 +112,18 @@ module _ (s t e digits : ℕ) where
       go (inr p) =
           let n = normal-exponent 31 (loose t e digits) in
           ended-other (omega arith) ∙ closed-below-zero s (normal 31 (loose t e digits)) (omega arith)
+
+  -- an exponent up to 255 stays there
+  pub ended-too-big-only : ended s t e digits ≡ TooBig → 511 < e
+  ended-too-big-only h = go (eq-zero-or-pos t)
+    where
+      go : (t ≡ 0) ⊎ (0 < t) → 511 < e
+      go (inl z) = absurd (let d = ended-zero z in let o : _≡_ {A = ℕ} 0 1 = cc in omega arith)
+      go (inr p) =
+          let l = normal 31 (loose t e digits) in
+          let n = normal-exponent 31 (loose t e digits) in
+          let b : 511 < l .e = closed-too-big-only s l (sym (ended-other (omega arith)) ∙ h) in
+          omega arith
 
   -- the top bit is set already
   pub ended-set : 2 ^ 31 ≤ t → ended s t e digits ≡ closed s (loose t e digits)

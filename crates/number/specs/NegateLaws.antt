@@ -2,7 +2,7 @@
 use Prim.Native.Nat.{_-_, _≤_, _<_}
 use mathlib.Core.Path.{_≡_, refl, sym, _∙_, ap}
 use mathlib.Core.Logic.{inr}
-use mathlib.Core.Bool.{false}
+use mathlib.Core.Bool.{Bool, true, false, cond}
 use native.Mathlib.Omega.{arith}
 use borrow.Author.Tests.{ne-eqb}
 use lib.IntN.{negℤ}
@@ -45,6 +45,18 @@ module _ (x : Number) where
             let none : shortMagnitude x ≡ 0 = simp (ne-eqb (sign x) 0 (omega arith)) (omega arith) in
             negate-as z Odd e ∙ sym (ap (λ s. shortOf s (shortMagnitude x)) one ∙ ap (shortOf 0) none)
         go Malformed e = negate-as z Malformed e
+
+-- its exponent byte is no larger
+pub negated-exponent : (x : Number) → negated x .b1 ≤ x .b1
+unfolding negated
+negated-exponent x = go (passesZeroTest x) (formOf x)
+  where
+    go : (z : Bool) (f : Form) → cond z x (negatedAs f x) .b1 ≤ x .b1
+    go true f = omega arith
+    go false Full = omega arith
+    go false Short = omega arith
+    go false Odd = omega arith
+    go false Malformed = omega arith
 
 -- "other shorts change sign", over whole numbers
 pub negate-value : (x : Number) → Bytes x → x .b1 ≡ 0 → 0 < shortMagnitude x → 256 ≤ x .word → shortValue (negated x) ≡ negℤ (shortValue x)

@@ -1,5 +1,6 @@
 -- Document 01: "Re-stacking: full stays. Short zero and odd become 00 00 00 00 00. Any other short number becomes the full number of equal value."
 use Prim.Native.Nat.{ℕ, _*_, _-_, _^_}
+use mathlib.Core.Path.{_≡_}
 use mathlib.Core.Bool.{cond}
 use lib.Dec.{eqb}
 use lib.Count.{leadingZeros}
@@ -25,3 +26,7 @@ restackedAs Malformed x = shortRestacked x
 
 unfoldable pub restacked : Number → Number
 restacked x = restackedAs (formOf x) x
+
+-- "'Counts as zero' means re-stacked to five zero bytes."
+abbrev pub CountsAsZero : Number → Type 0
+CountsAsZero x = restacked x ≡ zeros

@@ -84,6 +84,16 @@ restacked-bytes x b = go (restacked x) (restacked-is x)
     go y (nothing p q) = omega arith
     go y (worth p q) = omega arith
 
+-- a full number's exponent byte stays, a short number's becomes 160 at most
+pub restacked-exponent : (x : Number) (k : ℕ) → x .b1 ≤ k → 160 ≤ k → restacked x .b1 ≤ k
+unfolding fullOfShort
+restacked-exponent x k h l = go (restacked x) (restacked-is x)
+  where
+    go : (y : Number) → Restacked x y → y .b1 ≤ k
+    go y (itself p) = h
+    go y (nothing p q) = omega arith
+    go y (worth p q) = omega arith
+
 -- "Counts as zero" means re-stacked to five zero bytes: the exponent byte alone says so.
 pub restacked-zero : (x : Number) → Bytes x → restacked x .b1 ≡ 0 → restacked x ≡ zeros
 restacked-zero x b z = go (restacked x) (restacked-is x) z

@@ -1,15 +1,17 @@
 -- Int of a negative number with exponent byte 145 to 159: less 1, one is added to its magnitude, at bit 160 - b1.
 use Prim.Native.Nat.{ℕ, suc, _+_, _*_, _-_, _^_, _/_, _≤_, _<_}
 use mathlib.Core.Path.{_≡_, refl, sym, _∙_, ap, ap₂}
-use mathlib.Core.Bool.{false}
-use borrow.Author.Tests.{ne-eqb, le-ltb}
-use native.Mathlib.Nat.{div-eq-of-lt, add-mul-div-right, le-trans, le-of-eq}
+use mathlib.Core.Logic.{_⊎_, inl, inr}
+use mathlib.Core.Bool.{Bool, true, false}
+use borrow.Author.Tests.{ne-eqb, le-ltb, ltb-true, ltb-false, eqb-true, eqb-false}
+use lib.Dec.{ltb, eqb}
+use native.Mathlib.Nat.{eq-zero-or-pos, div-eq-of-lt, add-mul-div-right, le-trans, le-of-eq}
 use native.Mathlib.Omega.{arith}
 use lib.Count.{leadingZeros}
 use lib.IntN.{ℤ, _+ℤ_}
-use lib.Pow.{pow-add, pow-pos}
+use lib.Pow.{pow-add, pow-pos, pow-mono}
 use Rattle.number.specs.declared.Number.{Number}
-use Rattle.number.specs.Number.{formOf, sign, mantissa, fullOf, halves, passesZeroTest}
+use Rattle.number.specs.Number.{formOf, sign, low, mantissa, fullOf, halves, passesZeroTest}
 use Rattle.number.specs.NumberLaws.{Bytes}
 use Rattle.number.specs.Value.{signed}
 use Rattle.number.specs.Restack.{fullOfShort, restacked}
@@ -24,10 +26,10 @@ use Rattle.addition.specs.SignedLaws.{same-sign}
 use Rattle.addition.specs.AdditionLaws.{shiftedBy, aligned-first, sum-ended, sum-stored}
 use Rattle.addition.specs.ShortRouteLaws.{first-full}
 use Rattle.truncation.specs.Truncate.{taken65536, cleared}
-use Rattle.truncation.specs.BitLaws.{Cleared, cleared-word}
+use Rattle.truncation.specs.BitLaws.{cleared-le, Cleared, cleared-word}
 use Rattle.truncation.specs.Int.{shortOne, intOf}
-use Rattle.truncation.specs.IntLaws.{minusOne}
-use Rattle.truncation.specs.FloorLaws.{Cut, cut-full}
+use Rattle.truncation.specs.IntLaws.{int-positive, int-short, int-odd, minusOne}
+use Rattle.truncation.specs.FloorLaws.{Cut, cut-short, cut-full, short-up, int-small, int-taken, int-large}
 
 -- 2^31 moved down by j places; the half that is added is lost again
 one-moved : (j : ℕ) → j ≤ 31 → shiftedBy 1 (2 ^ 31) j ≡ 2 ^ (31 - j)
@@ -107,3 +109,28 @@ module _ (x : Number) (b : Bytes x) (s : sign x ≡ 1) (h : 145 ≤ x .b1) (g : 
         cuts .part p
         ∙ full-less-one-carried whole (kept .sign ∙ s) h g (le-trans f (le-of-eq (sym equal))) (le-trans (le-of-eq (ap (λ (n : ℕ). suc (n + 1)) equal)) l)
         ∙ ap (λ (m : ℕ). Done (fullOf 1 (x .b1 + 1) (m / 2))) equal
+
+-- Int is never too big: each of its cases gives a number.
+pub int-done : (x : Number) → Bytes x → (n : Number) × (intOf x ≡ Done n)
+int-done x b = go (eq-zero-or-pos (sign x)) (eq-zero-or-pos (x .b1)) (eq-zero-or-pos (low x))
+  where
+    full : sign x ≡ 1 → 0 < x .b1 → (a c e t w r : Bool) → ltb (x .b1) 129 ≡ a → ltb (x .b1) 145 ≡ c → ltb (x .b1) 160 ≡ e → taken65536 x ≡ t
+        → eqb (cleared (160 - x .b1) (mantissa x)) (mantissa x) ≡ w → ltb (cleared (160 - x .b1) (mantissa x) + 2 ^ (160 - x .b1)) (2 ^ 32) ≡ r
+        → (n : Number) × (intOf x ≡ Done n)
+    full s f true c e t w r p q u v y z = (_, int-small x b s f (ltb-true _ _ p))
+    full s f false true e t true r p q u v y z = (_, cut-short x b s f (ltb-false _ _ p) (ltb-true _ _ q) .whole (eqb-true _ _ y))
+    full s f false true e t false r p q u v y z = (_, short-up x b s f (ltb-false _ _ p) (ltb-true _ _ q) (eqb-false _ _ y))
+    full s f false false true true w r p q u v y z = (_, int-taken x b s f v)
+    full s f false false true false true r p q u v y z = (_, int-same x b s (ltb-false _ _ q) (ltb-true _ _ u) v (eqb-true _ _ y))
+    full s f false false true false false true p q u v y z = (_, int-up x b s (ltb-false _ _ q) (ltb-true _ _ u) v (eqb-false _ _ y) (ltb-true _ _ z))
+    full s f false false true false false false p q u v y z =
+        let m = cleared-le (mantissa x) (160 - x .b1) in
+        let one = pow-mono {i = 160 - x .b1} {j = 31} (omega (arith, ltb-false (x .b1) 145 q)) in
+        (_, int-up-carried x b s (ltb-false _ _ q) (ltb-true _ _ u) v (eqb-false _ _ y) (ltb-false _ _ z) (omega arith))
+    full s f false false false t w r p q u v y z = (_, int-large x b s f (ltb-false _ _ u))
+
+    go : (sign x ≡ 0) ⊎ (0 < sign x) → (x .b1 ≡ 0) ⊎ (0 < x .b1) → (low x ≡ 0) ⊎ (0 < low x) → (n : Number) × (intOf x ≡ Done n)
+    go (inl z) h l = (_, int-positive x z)
+    go (inr z) (inl h) (inl l) = (_, int-odd x b h (omega arith) l)
+    go (inr z) (inl h) (inr l) = (_, int-short x b h (omega arith) l)
+    go (inr z) (inr h) l = full (omega arith) h _ _ _ _ _ _ refl refl refl refl refl refl
