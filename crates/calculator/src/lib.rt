@@ -1,12 +1,7 @@
 // The calculator of the ZX Spectrum, on a stack that the caller lends: any bytes, any depth, any literals.
-mod moving;
-mod one;
 mod operation;
 mod outcome;
-mod places;
 mod running;
-mod table;
-mod two;
 
 pub use display::Cell;
 pub use display::cell;

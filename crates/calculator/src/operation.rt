@@ -1,13 +1,12 @@
 // One operation on the stack: the report that comes first, or the bytes and the depth that the literal leaves.
-use crate::moving;
-use crate::one;
-use crate::table;
-use crate::two;
+use literals::table;
 use slots::Outcome;
+ghost use Prim.Native.Nat.{ℕ};
 ghost use mathlib.Core.Path.{_≡_};
-ghost use Rattle.slots.specs.LimitLaws.{Within};
+ghost use mathlib.Core.Bool.{true};
+ghost use Rattle.literals.specs.Literals.{operationOf};
+ghost use Rattle.literals.specs.Reports.{notInTable};
 ghost use Rattle.literals.specs.Operate.{operateOf, outcome};
-ghost use Rattle.literals.specs.Dispatch.{Moves, TakesTwo, Stepped};
 
 pub fn operate(stack: &mut [u8], depth: usize, literal: u8) -> Outcome
     ensures { λ r. ⌜ operateOf (now (stack .entry)) depth literal ≡ (r, now (stack .exit)) ⌝ }
@@ -24,100 +23,27 @@ pub fn operate(stack: &mut [u8], depth: usize, literal: u8) -> Outcome
 pub fn operate_in_place(stack: &mut [u8], depth: &mut usize, literal: u8) -> u8
     ensures { λ r. ⌜ operateOf (now (stack .entry)) (now (depth .entry)) literal ≡ (outcome r (now (depth .exit)), now (stack .exit)) ⌝ }
 {
-    if slots::over_limits(stack, *depth) {
+    match literal {
+        table::EXCHANGE => moving::exchange(stack, *depth),
+        table::DELETE => moving::delete(stack, depth),
+        table::SUBTRACT => binary::subtract(stack, depth),
+        table::DIVIDE => binary::divide(stack, depth),
+        table::ADD => binary::add(stack, depth),
+        table::NEGATE => unary::negate(stack, *depth),
+        table::INT => unary::int(stack, *depth),
+        table::DUPLICATE => moving::duplicate(stack, depth),
+        table::TRUNCATE => unary::truncate(stack, *depth),
+        table::RE_STACK => unary::re_stack(stack, *depth),
+        _ => unknown(stack, *depth),
+    }
+}
+
+// A literal that is in no row.
+pub(crate) fn unknown(stack: &[u8], depth: usize) -> u8
+    ensures { λ r. ⌜ ((l : ℕ) → notInTable (operationOf l) ≡ true → operateOf (now (stack .entry)) depth l ≡ (outcome r depth, now (stack .entry))) ⌝ }
+{
+    if slots::over_limits(stack, depth) {
         return 1;
-    }
-    step(stack, depth, literal)
-}
-
-// An operation on a stack within its limits: its report, with the depth moved where it is 0. A run checks the limits once and then
-// calls this for each literal. The rows of the table are tried in three groups: here those that move numbers as they are.
-pub(crate) fn step(stack: &mut [u8], depth: &mut usize, literal: u8) -> u8
-    requires { ⌜ Within (now stack) (now depth) ⌝ }
-    ensures { λ r. ⌜ Stepped (now (stack .entry)) (now (depth .entry)) literal r (now (depth .exit)) (now (stack .exit)) ⌝ }
-{
-    if literal == table::EXCHANGE {
-        return moving::exchange(stack, depth, table::EXCHANGE_TAKES, table::EXCHANGE_LEAVES);
-    }
-    if literal == table::DELETE {
-        return moving::delete(depth, table::DELETE_TAKES, table::DELETE_LEAVES);
-    }
-    if literal == table::DUPLICATE {
-        return moving::duplicate(
-            stack,
-            depth,
-            table::DUPLICATE_TAKES,
-            table::DUPLICATE_LEAVES,
-        );
-    }
-    step_two(stack, depth, literal)
-}
-
-// Those that take two numbers and look at their forms.
-fn step_two(stack: &mut [u8], depth: &mut usize, literal: u8) -> u8
-    requires { ⌜ Within (now stack) (now depth) ⌝ }
-    requires { ⌜ (Moves literal → ⊥) ⌝ }
-    ensures { λ r. ⌜ Stepped (now (stack .entry)) (now (depth .entry)) literal r (now (depth .exit)) (now (stack .exit)) ⌝ }
-{
-    if literal == table::SUBTRACT {
-        return two::two(
-            stack,
-            depth,
-            literal,
-            table::SUBTRACT_TAKES,
-            table::SUBTRACT_LEAVES,
-        );
-    }
-    if literal == table::DIVIDE {
-        return two::two(
-            stack,
-            depth,
-            literal,
-            table::DIVIDE_TAKES,
-            table::DIVIDE_LEAVES,
-        );
-    }
-    if literal == table::ADD {
-        return two::two(stack, depth, literal, table::ADD_TAKES, table::ADD_LEAVES);
-    }
-    step_one(stack, depth, literal)
-}
-
-// Those that take one; any other literal is not in the table.
-fn step_one(stack: &mut [u8], depth: &mut usize, literal: u8) -> u8
-    requires { ⌜ Within (now stack) (now depth) ⌝ }
-    requires { ⌜ (Moves literal → ⊥) × (TakesTwo literal → ⊥) ⌝ }
-    ensures { λ r. ⌜ Stepped (now (stack .entry)) (now (depth .entry)) literal r (now (depth .exit)) (now (stack .exit)) ⌝ }
-{
-    if literal == table::NEGATE {
-        return one::one(
-            stack,
-            depth,
-            literal,
-            table::NEGATE_TAKES,
-            table::NEGATE_LEAVES,
-        );
-    }
-    if literal == table::INT {
-        return one::one(stack, depth, literal, table::INT_TAKES, table::INT_LEAVES);
-    }
-    if literal == table::TRUNCATE {
-        return one::one(
-            stack,
-            depth,
-            literal,
-            table::TRUNCATE_TAKES,
-            table::TRUNCATE_LEAVES,
-        );
-    }
-    if literal == table::RE_STACK {
-        return one::one(
-            stack,
-            depth,
-            literal,
-            table::RE_STACK_TAKES,
-            table::RE_STACK_LEAVES,
-        );
     }
     5 // not in the table
 }

@@ -1,7 +1,9 @@
 // A run: a list of literals, done in turn until one is refused.
-use crate::operation;
+use crate::operation::unknown;
 use crate::outcome::RunOutcome;
+use literals::table;
 ghost use mathlib.Core.Path.{_≡_};
+ghost use Rattle.literals.specs.Operate.{operateOf, outcome};
 ghost use Rattle.calculator.specs.Run.{runOf};
 
 // Where a run stopped.
@@ -37,7 +39,7 @@ pub fn run(stack: &mut [u8], depth: usize, literals: &[u8]) -> RunOutcome
                 position,
             };
         }
-        let report = operation::step(stack, &mut current, literals[position]);
+        let report = step(stack, &mut current, literals[position]);
         if report != 0 {
             break Stop { report, position };
         }
@@ -47,5 +49,24 @@ pub fn run(stack: &mut [u8], depth: usize, literals: &[u8]) -> RunOutcome
         report: stop.report,
         position: stop.position,
         depth: current,
+    }
+}
+
+// The table once more, for the run alone: the compiler then has each small literal inside the loop.
+fn step(stack: &mut [u8], depth: &mut usize, literal: u8) -> u8
+    ensures { λ r. ⌜ operateOf (now (stack .entry)) (now (depth .entry)) literal ≡ (outcome r (now (depth .exit)), now (stack .exit)) ⌝ }
+{
+    match literal {
+        table::EXCHANGE => moving::exchange(stack, *depth),
+        table::DELETE => moving::delete(stack, depth),
+        table::SUBTRACT => binary::subtract(stack, depth),
+        table::DIVIDE => binary::divide(stack, depth),
+        table::ADD => binary::add(stack, depth),
+        table::NEGATE => unary::negate(stack, *depth),
+        table::INT => unary::int(stack, *depth),
+        table::DUPLICATE => moving::duplicate(stack, depth),
+        table::TRUNCATE => unary::truncate(stack, *depth),
+        table::RE_STACK => unary::re_stack(stack, *depth),
+        _ => unknown(stack, *depth),
     }
 }

@@ -4,6 +4,5 @@ pub mod Reports
 pub mod ReportLaws
 pub mod Operate
 pub mod OperateLaws
-pub mod Dispatch
-pub mod RowLaws
-pub mod DispatchLaws
+pub mod WayLaws
+pub mod MoveLaws

@@ -1,14 +1,15 @@
 -- A refused operation leaves all as it was, and an accepted one leaves what the definition says.
 use Prim.Native.Nat.{ℕ, suc, _+_, _-_}
-use mathlib.Core.Path.{_≡_}
+use mathlib.Core.Path.{_≡_, ap}
 use mathlib.Core.Bool.{true}
 use mathlib.Core.List.{List}
+use borrow.Author.Tests.{ne-eqb}
 use Rattle.slots.specs.declared.outcome.Outcome.{Outcome}
 use Rattle.slots.specs.Reports.{overLimits}
 use Rattle.slots.specs.Push.{settled}
 use Rattle.slots.specs.PushLaws.{settled-refused}
-use Rattle.literals.specs.Literals.{operationOf, takes, leaves}
-use Rattle.literals.specs.Reports.{reportOf}
+use Rattle.literals.specs.Literals.{unknown, Row, row, rowOf, operationOf, takes, leaves}
+use Rattle.literals.specs.Reports.{notInTable, reportOf}
 use Rattle.literals.specs.Operate.{outcome, bytesAfter, operateOf}
 
 module _ (s : List ℕ) (d l : ℕ) where
@@ -27,3 +28,26 @@ module _ (s : List ℕ) (d l : ℕ) where
   pub operate-kept : (o : Outcome) (s′ : List ℕ) → operateOf s d l ≡ (o, s′) → (o .report ≡ 0 → ⊥) → (s′ ≡ s) × (o .depth ≡ d)
   unfolding operateOf
   operate-kept o s′ e h = settled-refused (reportOf s d l) d s _ _ o s′ e h
+
+-- a literal that is in no row
+module _ (l : ℕ) (a : l ≡ 1 → ⊥) (b : l ≡ 2 → ⊥) (c : l ≡ 3 → ⊥) (d : l ≡ 5 → ⊥) (e : l ≡ 15 → ⊥) (f : l ≡ 27 → ⊥) (g : l ≡ 39 → ⊥) (h : l ≡ 49 → ⊥)
+    (i : l ≡ 58 → ⊥) (j : l ≡ 61 → ⊥) where
+  no-row : rowOf l ≡ row l unknown 0 0
+  unfolding rowOf
+  no-row =
+      simp (
+        ne-eqb l 1 a,
+        ne-eqb l 2 b,
+        ne-eqb l 3 c,
+        ne-eqb l 5 d,
+        ne-eqb l 15 e,
+        ne-eqb l 27 f,
+        ne-eqb l 39 g,
+        ne-eqb l 49 h,
+        ne-eqb l 58 i,
+        ne-eqb l 61 j,
+      )
+
+  pub in-no-row : notInTable (operationOf l) ≡ true
+  unfolding notInTable operationOf
+  in-no-row = ap (λ (q : Row). notInTable (q .operation)) no-row

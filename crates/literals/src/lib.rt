@@ -1,6 +1,2 @@
-// The ten literals: what those that look at a number's form compute. What each takes and leaves, its reports and what it does to a stack are
-// defined in specs/.
-mod computing;
-
-pub use computing::of_one;
-pub use computing::of_two;
+// The ten literals: the table of what each takes and leaves. Its reports and what it does to a stack are defined in specs/.
+pub mod table;

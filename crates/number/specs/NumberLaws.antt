@@ -24,17 +24,25 @@ sign-full s e m h = omega arith
 pub places : (w : ℕ) → (w / 2 ^ 16 ≡ w / 2 ^ 8 / 2 ^ 8) × (w / 2 ^ 24 ≡ w / 2 ^ 16 / 2 ^ 8)
 places w = (sym (div-div-eq-div-mul w (2 ^ 8) (2 ^ 8)), sym (div-div-eq-div-mul w (2 ^ 16) (2 ^ 8)))
 
+-- the bytes that a word is made of
+pub word-bytes : (b c d e : ℕ) → b < 256 → c < 256 → d < 256 → e < 256
+    → (wordOf b c d e / 2 ^ 24 ≡ b) × (wordOf b c d e / 2 ^ 16 % 256 ≡ c) × (wordOf b c d e / 2 ^ 8 % 256 ≡ d) × (wordOf b c d e % 256 ≡ e)
+word-bytes b c d e p q r s =
+    let w = wordOf b c d e in
+    let one : w / 2 ^ 8 ≡ b * 2 ^ 16 + c * 2 ^ 8 + d = omega arith in
+    let two : w / 2 ^ 16 ≡ b * 2 ^ 8 + c = places w .0 ∙ ap (λ (k : ℕ). k / 2 ^ 8) one ∙ omega arith in (
+      places w .1 ∙ ap (λ (k : ℕ). k / 2 ^ 8) two ∙ omega arith,
+      ap (λ (k : ℕ). k % 256) two ∙ omega arith,
+      ap (λ (k : ℕ). k % 256) one ∙ omega arith,
+      omega arith,
+    )
+
 -- four bytes in the other order, swapped
 pub swapped-word : (b c d e : ℕ) → b < 256 → c < 256 → d < 256 → e < 256 → swappedOf (wordOf e d c b) ≡ wordOf b c d e
 swapped-word b c d e p q r s =
     let w = wordOf e d c b in
-    let zero : w % 256 ≡ b = omega arith in
-    let one : w / 2 ^ 8 ≡ e * 2 ^ 16 + d * 2 ^ 8 + c = omega arith in
-    let two : w / 2 ^ 16 ≡ e * 2 ^ 8 + d = places w .0 ∙ ap (λ (k : ℕ). k / 2 ^ 8) one ∙ omega arith in
-    let three : w / 2 ^ 24 ≡ e = places w .1 ∙ ap (λ (k : ℕ). k / 2 ^ 8) two ∙ omega arith in
-    let first : w / 2 ^ 8 % 256 ≡ c = ap (λ (k : ℕ). k % 256) one ∙ omega arith in
-    let second : w / 2 ^ 16 % 256 ≡ d = ap (λ (k : ℕ). k % 256) two ∙ omega arith in
-    ap₂ (λ (i j : ℕ). wordOf i j (w / 2 ^ 16 % 256) (w / 2 ^ 24)) zero first ∙ ap₂ (wordOf b c) second three
+    let are = word-bytes e d c b s r q p in
+    ap₂ (λ (i j : ℕ). wordOf i j (w / 2 ^ 16 % 256) (w / 2 ^ 24)) (are .3) (are .2) ∙ ap₂ (wordOf b c) (are .1) (are .0)
 
 -- what is written as a low half is read as one
 pub low-halves : (b h : ℕ) → h < 2 ^ 16 → low (halves b h) ≡ h

@@ -2,6 +2,8 @@ pub mod Slots
 pub mod SlotLaws
 pub mod Reports
 pub mod LimitLaws
+pub mod Reach
+pub mod ReachLaws
 pub mod View
 pub mod ViewLaws
 pub mod Push

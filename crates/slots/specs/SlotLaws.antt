@@ -1,12 +1,13 @@
 -- Laws of slots: five stores are a putSlot, and a slot is its five bytes.
-use Prim.Native.Nat.{ℕ, suc, _+_, _*_, _≤_}
-use mathlib.Core.Path.{_≡_, sym, _∙_, ap}
-use mathlib.Core.List.{List, [], _∷_}
+use Prim.Native.Nat.{ℕ, suc, _+_, _*_, _≤_, _<_}
+use mathlib.Core.Path.{_≡_, refl, sym, _∙_, ap}
+use mathlib.Core.List.{List, [], _∷_, _++_, append-assoc}
 use native.Mathlib.Omega.{arith}
 use native.Mathlib.Numerals.{towards-suc, add-five}
-use lib.ListN.{length, set, getD, length-append, length-take, length-drop}
-use lib.Seq.{set-comm, sets-eq, drop-cons, take-all}
-use Rattle.slots.specs.Slots.{slot, putSlot}
+use lib.ListN.{length, set, getD, take, drop, take-append-drop, length-append, length-take, length-drop}
+use lib.Seq.{set-comm, sets-eq, drop-cons, drop-drop, take-all}
+use Rattle.number.specs.NumberLaws.{word-bytes}
+use Rattle.slots.specs.Slots.{slot, numberIn, bytesOf, putSlot, putIn}
 
 -- five bytes are read: the slot
 abbrev pub fiveAt : List ℕ → ℕ → List ℕ
@@ -43,6 +44,21 @@ module _ (s : List ℕ) (i : ℕ) (h : 5 * i + 5 ≤ length s) where
         drop-cons s (suc (suc (suc (5 * i)))) 0 (omega arith),
         drop-cons s (suc (suc (suc (suc (5 * i))))) 0 (omega arith),
       ))
+
+  -- a slot with its own bytes put into it
+  slot-kept : putSlot s i (slot s i) ≡ s
+  unfolding putSlot slot
+  slot-kept =
+      rw (append-assoc, ← drop-drop 5 (5 * i) s)
+      (ap (λ (r : List ℕ). take (5 * i) s ++ r) (take-append-drop 5 (drop (5 * i) s)) ∙ take-append-drop (5 * i) s)
+
+  -- or its own number
+  pub number-kept : ((k : ℕ) → getD s k 0 < 256) → putIn s i (numberIn s i) ≡ s
+  unfolding numberIn bytesOf
+  number-kept b =
+      let at = 5 * i in
+      let are = word-bytes _ _ _ _ (b (at + 1)) (b (at + 2)) (b (at + 3)) (b (at + 4)) in
+      ap (putSlot s i) (rw (are .0, are .1, are .2, are .3) refl ∙ sym slot-five) ∙ slot-kept
 
   pub length-putSlot : (five : List ℕ) → length five ≡ 5 → length (putSlot s i five) ≡ length s
   unfolding putSlot

@@ -1,4 +1,4 @@
--- `run` meets its contract: the invariant is that what is left to run from here equals the whole run, within the limits.
+-- `run` meets its contract: the invariant is that what is left to run from here equals the whole run.
 use borrow.Author.Needs.{needs}
 use Prim.Native.Nat.{_-_, _≤_, _<_}
 use mathlib.Core.Path.{_≡_, refl, sym, _∙_}
@@ -6,7 +6,6 @@ use native.Mathlib.Omega.{arith}
 use lib.ListN.{length, drop}
 use mathlib.Core.Bool.{false}
 use Rattle.slots.specs.Reports.{overLimits}
-use Rattle.slots.specs.LimitLaws.{Within, within-of}
 use Rattle.calculator.specs.Run.{goOn, runOf}
 use Rattle.calculator.specs.RunLaws.{at-end, stops, goes-on, run-over, run-too-long, run-starts}
 use Rattle.calculator.proofs.running.run.Statement.{statement}
@@ -15,7 +14,6 @@ use Rattle.calculator.proofs.running.run.Tie as tie
 abbrev Inv-loop : tie.InvT-loop
 Inv-loop stack₀ depth literals current₀ position₀ stack current position =
     (goOn (drop position literals) position stack current ≡ runOf stack₀ depth literals)
-    × Within stack current
     × (length stack ≡ length stack₀)
     × (position ≤ length literals)
 
@@ -41,13 +39,13 @@ returns-2 : tie.Need-returns-2 Inv-loop μ-loop
 returns-2 c = run-too-long _ _ _ (not-over (c .before)) (c .if2 .taken)
 
 loop-holds : tie.Need-loop-holds Inv-loop μ-loop
-loop-holds c = (run-starts _ _ _ (not-over (c .before)) (c .if2 .left), within-of _ _ (not-over (c .before)), refl, omega arith)
+loop-holds c = (run-starts _ _ _ (not-over (c .before)) (c .if2 .left), refl, omega arith)
 
 shared-slice-read-step : tie.Need-shared-slice-read-step Inv-loop μ-loop
 shared-slice-read-step c = omega arith
 
 step-requires : tie.Need-step-requires Inv-loop μ-loop
-step-requires c κs = c .before .before .before .before .loop .inv .1
+step-requires c κs = tt
 
 add-position : tie.Need-add-position Inv-loop μ-loop
 add-position c = omega arith
@@ -60,28 +58,27 @@ loop-again c =
     let step = c .before .before .before .step in
     let l = c .before .before .before .before .before .before .before .before .loop in
     let k : l .position < length (c .before .before .before .before .before .before .before .before .before .before .before .before .before .before .before .args .literals .now) = omega arith in
-    let q : length (step .last .0) ≡ length (l .stack) = step .kept .0 in (
-      sym (goes-on _ _ _ _ k _ _ (step .ensures .same) (omega arith)) ∙ l .inv .0,
-      record { short = omega (arith, l .inv .1 .short); deep = omega (arith, step .ensures .fits) },
-      q ∙ l .inv .2,
+    (
+      sym (goes-on _ _ _ _ k _ _ (step .ensures) (omega arith)) ∙ l .inv .0,
+      step .kept .0 ∙ l .inv .1,
       omega arith,
     )
 
 same-length-3 : tie.Need-same-length-3 Inv-loop μ-loop
-same-length-3 c = c .before .loop .inv .2
+same-length-3 c = c .before .loop .inv .1
 
 returns-3 : tie.Need-returns-3 Inv-loop μ-loop
 returns-3 c = sym (c .before .loop .inv .0) ∙ at-end _ _ _ _ (c .if3 .taken)
 
 same-length-4 : tie.Need-same-length-4 Inv-loop μ-loop
-same-length-4 c = c .before .before .before .step .kept .0 ∙ c .before .before .before .before .before .before .before .before .loop .inv .2
+same-length-4 c = c .before .before .before .step .kept .0 ∙ c .before .before .before .before .before .before .before .before .loop .inv .1
 
 returns-4 : tie.Need-returns-4 Inv-loop μ-loop
 returns-4 c =
     let step = c .before .before .before .step in
     let l = c .before .before .before .before .before .before .before .before .loop in
     let k : l .position < length (c .before .before .before .before .before .before .before .before .before .before .before .before .before .before .before .args .literals .now) = omega arith in
-    sym (l .inv .0) ∙ stops _ _ _ _ k _ _ (step .ensures .same) (omega arith)
+    sym (l .inv .0) ∙ stops _ _ _ _ k _ _ (step .ensures) (omega arith)
 
 pub run-spec : {M : Type 1} → statement M
 run-spec =

@@ -1,0 +1,9 @@
+// The literals that take two numbers and look at their forms: subtract, divide and add. The lower operand is the first, and the result stands in
+// its slot.
+mod quotient;
+mod storing;
+mod sum;
+
+pub use quotient::divide;
+pub use sum::add;
+pub use sum::subtract;

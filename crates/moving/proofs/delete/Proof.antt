@@ -1,0 +1,21 @@
+-- `delete` meets its contract: it moves the depth and no byte.
+use mathlib.Core.Path.{sym, _∙_}
+use native.Mathlib.Omega.{arith}
+use Rattle.slots.specs.ReachLaws.{has}
+use Rattle.literals.specs.MoveLaws.{delete-lacking, delete-done}
+use Rattle.moving.proofs.delete.Statement.{statement}
+use Rattle.moving.proofs.delete.Tie as tie
+
+returns : tie.Need-returns
+returns c = let t = c .before in delete-lacking _ _ (sym (t .before .lacks .ensures) ∙ t .if1 .taken) _ (c .refusal .ensures)
+
+pub delete-spec : {M : Type 1} → statement M
+delete-spec =
+    tie.close
+    (tie.spec
+    (λ c κs. tt)
+    (λ c κs. tt)
+    returns
+    (λ c. omega (arith, has _ _ _ (sym (c .before .lacks .ensures) ∙ c .if1 .left)))
+    (λ c. omega (arith, has _ _ _ (sym (c .before .lacks .ensures) ∙ c .if1 .left)))
+    (λ c. delete-done _ _ (sym (c .before .lacks .ensures) ∙ c .if1 .left)))

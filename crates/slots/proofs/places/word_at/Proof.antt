@@ -1,0 +1,31 @@
+-- `word_at` meets its contract: what is read the other way round is swapped.
+use Prim.Native.Nat.{ℕ}
+use mathlib.Core.Path.{sym, _∙_, ap}
+use native.Mathlib.Omega.{arith}
+use Rattle.number.specs.declared.Number.{Number}
+use Rattle.slots.specs.ReachLaws.{has, none-at, number-at}
+use Rattle.slots.proofs.places.word_at.Statement.{statement}
+use Rattle.slots.proofs.places.word_at.Tie as tie
+
+abbrev word : Number → ℕ
+word n = n .word
+
+returns : tie.Need-returns
+returns c = sym (ap word (none-at _ _ _ (sym (c .before .lacks .ensures) ∙ c .if1 .taken)))
+
+returns-2 : tie.Need-returns-2
+returns-2 c =
+    let e = c .before .before in
+    c .swapped .ensures ∙ c .before .four-in .ensures ∙ sym (ap word (number-at _ _ _ (sym (e .before .lacks .ensures) ∙ e .if1 .left)))
+
+pub word-at-spec : {M : Type 1} → statement M
+word-at-spec =
+    tie.close
+    (tie.spec
+    (λ c. omega arith)
+    (λ c κs. tt)
+    returns
+    (λ c. omega (arith, has _ _ _ (sym (c .before .lacks .ensures) ∙ c .if1 .left)))
+    (λ c κs. omega (arith, has _ _ _ (sym (c .before .lacks .ensures) ∙ c .if1 .left)))
+    (λ c κs. tt)
+    returns-2)

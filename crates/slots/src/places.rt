@@ -1,0 +1,128 @@
+// Where the bytes of a number stand: slot i is bytes 5i to 5i+4. A number is asked for by how many stand above it: none above the top, one
+// above the lower operand. Where the stack lacks it, it reads as zero and nothing is written; a caller that has asked `lacks` pays nothing for that.
+use crate::reach::lacks;
+use number::Number;
+ghost use mathlib.Core.Path.{_≡_};
+ghost use Prim.Native.Nat.{_+_, _*_, _≤_};
+ghost use lib.ListN.{length};
+ghost use Rattle.number.specs.Number.{number as numberOf, swappedOf, malformed};
+ghost use Rattle.slots.specs.Slots.{slot as slotOf, numberIn, putSlot, putIn};
+ghost use Rattle.slots.specs.Reach.{numberAt, putAt, swapped as swappedSlots, copied};
+
+// b2 to b5 the other way round, as the machine holds a word: the compiler reads them at once.
+fn four_in(stack: &[u8], slot: usize) -> u32
+    requires { ⌜ 5 * slot + 5 ≤ length (now stack) ⌝ }
+    ensures { λ r. ⌜ swappedOf r ≡ numberIn (now (stack .entry)) slot .word ⌝ }
+{
+    let at = 5 * slot;
+    number::joined(stack[at + 4], stack[at + 3], stack[at + 2], stack[at + 1])
+}
+
+pub fn b1_at(stack: &[u8], depth: usize, above: u8) -> u8
+    ensures { λ r. ⌜ r ≡ numberAt (now (stack .entry)) depth above .b1 ⌝ }
+{
+    let nth = above as usize + 1;
+    if lacks(stack, depth, nth) {
+        return 0;
+    }
+    stack[5 * (depth - nth)]
+}
+
+pub fn word_at(stack: &[u8], depth: usize, above: u8) -> u32
+    ensures { λ r. ⌜ r ≡ numberAt (now (stack .entry)) depth above .word ⌝ }
+{
+    let nth = above as usize + 1;
+    if lacks(stack, depth, nth) {
+        return 0;
+    }
+    number::swapped(four_in(stack, depth - nth))
+}
+
+// The word is looked at only where b1 is 0: a full number has no form to test.
+pub fn malformed_at(stack: &[u8], depth: usize, above: u8) -> bool
+    ensures { λ r. ⌜ r ≡ malformed (numberAt (now (stack .entry)) depth above) ⌝ }
+{
+    let b1 = b1_at(stack, depth, above);
+    if b1 != 0 {
+        return false;
+    }
+    number::is_malformed(Number {
+        b1,
+        word: word_at(stack, depth, above),
+    })
+}
+
+// The word's bytes come first, so that the compiler stores them at once.
+fn put_in(stack: &mut [u8], slot: usize, n: Number)
+    requires { ⌜ 5 * slot + 5 ≤ length (now stack) ⌝ }
+    ensures { λ _. ⌜ now (stack .exit) ≡ putIn (now (stack .entry)) slot n ⌝ }
+{
+    let at = 5 * slot;
+    let word = n.word;
+    stack[at + 1] = (word / 16777216) as u8;
+    stack[at + 2] = (word / 65536 % 256) as u8;
+    stack[at + 3] = (word / 256 % 256) as u8;
+    stack[at + 4] = (word % 256) as u8;
+    stack[at] = n.b1;
+}
+
+pub fn put_at(stack: &mut [u8], depth: usize, above: u8, b1: u8, word: u32)
+    ensures { λ _. ⌜ now (stack .exit) ≡ putAt (now (stack .entry)) depth above (numberOf b1 word) ⌝ }
+{
+    let nth = above as usize + 1;
+    if lacks(stack, depth, nth) {
+        return;
+    }
+    put_in(stack, depth - nth, Number { b1, word });
+}
+
+// The bytes of a slot as they are, whatever they mean.
+fn five_in(stack: &[u8], slot: usize) -> [u8; 5]
+    requires { ⌜ 5 * slot + 5 ≤ length (now stack) ⌝ }
+    ensures { λ r. ⌜ r ≡ slotOf (now (stack .entry)) slot ⌝ }
+{
+    let at = 5 * slot;
+    [
+        stack[at],
+        stack[at + 1],
+        stack[at + 2],
+        stack[at + 3],
+        stack[at + 4],
+    ]
+}
+
+fn put_five(stack: &mut [u8], slot: usize, five: [u8; 5])
+    requires { ⌜ 5 * slot + 5 ≤ length (now stack) ⌝ }
+    ensures { λ _. ⌜ now (stack .exit) ≡ putSlot (now (stack .entry)) slot five ⌝ }
+{
+    let at = 5 * slot;
+    stack[at] = five[0];
+    stack[at + 1] = five[1];
+    stack[at + 2] = five[2];
+    stack[at + 3] = five[3];
+    stack[at + 4] = five[4];
+}
+
+// The two top slots, exchanged.
+pub fn swap(stack: &mut [u8], depth: usize)
+    ensures { λ _. ⌜ now (stack .exit) ≡ swappedSlots (now (stack .entry)) depth ⌝ }
+{
+    if lacks(stack, depth, 2) {
+        return;
+    }
+    let lower = five_in(stack, depth - 2);
+    let top = five_in(stack, depth - 1);
+    put_five(stack, depth - 2, top);
+    put_five(stack, depth - 1, lower);
+}
+
+// The top slot made a copy of the one below it.
+pub fn copy(stack: &mut [u8], depth: usize)
+    ensures { λ _. ⌜ now (stack .exit) ≡ copied (now (stack .entry)) depth ⌝ }
+{
+    if lacks(stack, depth, 2) {
+        return;
+    }
+    let below = five_in(stack, depth - 2);
+    put_five(stack, depth - 1, below);
+}

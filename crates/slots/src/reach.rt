@@ -1,0 +1,34 @@
+// Reports 1 and 2: whether a stack is within its limits and has the numbers that a literal takes.
+use crate::limits::over_limits;
+ghost use mathlib.Core.Path.{_≡_};
+ghost use Rattle.slots.specs.Reach.{lacking, refusalOf};
+
+// Each literal asks this first, and what the report is only where the answer is yes. In 32 bits the last product is one that nothing else
+// computes: the compiler then tests and jumps, where it would else compute all four answers.
+pub fn lacks(stack: &[u8], depth: usize, takes: usize) -> bool
+    ensures { λ r. ⌜ r ≡ lacking (now (stack .entry)) depth takes ⌝ }
+{
+    if 16000 < stack.len() {
+        return true;
+    }
+    if depth < takes {
+        return true;
+    }
+    if 3200 < depth {
+        return true;
+    }
+    (stack.len() as u32) < 5 * (depth as u32)
+}
+
+// Which report it is; 4 where neither 1 nor 2 is.
+pub fn refusal(stack: &[u8], depth: usize, takes: usize) -> u8
+    ensures { λ r. ⌜ r ≡ refusalOf (now (stack .entry)) depth takes ⌝ }
+{
+    if over_limits(stack, depth) {
+        return 1;
+    }
+    if depth < takes {
+        return 2;
+    }
+    4
+}

@@ -1,0 +1,78 @@
+// The literals that take one number and look at its form: negate, int, truncate and re-stack. None is ever too big, and none moves the depth.
+use literals::table;
+use number::Number;
+ghost use mathlib.Core.Path.{_≡_};
+ghost use Rattle.literals.specs.Operate.{outcome, operateOf};
+
+pub fn negate(stack: &mut [u8], depth: usize) -> u8
+    ensures { λ r. ⌜ operateOf (now (stack .entry)) depth 27 ≡ (outcome r depth, now (stack .exit)) ⌝ }
+{
+    if slots::lacks(stack, depth, table::NEGATE_TAKES) {
+        return slots::refusal(stack, depth, table::NEGATE_TAKES);
+    }
+    if slots::malformed_at(stack, depth, 0) {
+        return 3;
+    }
+    let b1 = slots::b1_at(stack, depth, 0);
+    let word = slots::word_at(stack, depth, 0);
+    let n = number::negate(Number { b1, word });
+    slots::put_at(stack, depth, 0, n.b1, n.word);
+    0
+}
+
+pub fn re_stack(stack: &mut [u8], depth: usize) -> u8
+    ensures { λ r. ⌜ operateOf (now (stack .entry)) depth 61 ≡ (outcome r depth, now (stack .exit)) ⌝ }
+{
+    if slots::lacks(stack, depth, table::RE_STACK_TAKES) {
+        return slots::refusal(stack, depth, table::RE_STACK_TAKES);
+    }
+    if slots::malformed_at(stack, depth, 0) {
+        return 3;
+    }
+    let b1 = slots::b1_at(stack, depth, 0);
+    if b1 != 0 {
+        return 0;
+    }
+    let word = slots::word_at(stack, depth, 0);
+    let n = number::re_stack(Number { b1, word });
+    slots::put_at(stack, depth, 0, n.b1, n.word);
+    0
+}
+
+pub fn truncate(stack: &mut [u8], depth: usize) -> u8
+    ensures { λ r. ⌜ operateOf (now (stack .entry)) depth 58 ≡ (outcome r depth, now (stack .exit)) ⌝ }
+{
+    if slots::lacks(stack, depth, table::TRUNCATE_TAKES) {
+        return slots::refusal(stack, depth, table::TRUNCATE_TAKES);
+    }
+    if slots::malformed_at(stack, depth, 0) {
+        return 3;
+    }
+    let b1 = slots::b1_at(stack, depth, 0);
+    if b1 == 0 {
+        return 0;
+    }
+    if 159 < b1 {
+        return 0;
+    }
+    let word = slots::word_at(stack, depth, 0);
+    let n = truncation::truncate(Number { b1, word });
+    slots::put_at(stack, depth, 0, n.b1, n.word);
+    0
+}
+
+pub fn int(stack: &mut [u8], depth: usize) -> u8
+    ensures { λ r. ⌜ operateOf (now (stack .entry)) depth 39 ≡ (outcome r depth, now (stack .exit)) ⌝ }
+{
+    if slots::lacks(stack, depth, table::INT_TAKES) {
+        return slots::refusal(stack, depth, table::INT_TAKES);
+    }
+    if slots::malformed_at(stack, depth, 0) {
+        return 3;
+    }
+    let b1 = slots::b1_at(stack, depth, 0);
+    let word = slots::word_at(stack, depth, 0);
+    let n = truncation::int(Number { b1, word });
+    slots::put_at(stack, depth, 0, n.b1, n.word);
+    0
+}
