@@ -6,7 +6,14 @@ ghost use Rattle.slots.specs.Reach.{lacking};
 ghost use Rattle.binary.specs.Stored.{storedOf};
 
 // The depth is read again where it is written: one that is kept costs a register for the whole operation.
-pub(crate) fn store(stack: &mut [u8], depth: &mut usize, old: usize, answer: Answer, taken: usize, left: usize) -> u8
+pub(crate) fn store(
+    stack: &mut [u8],
+    depth: &mut usize,
+    old: usize,
+    answer: Answer,
+    taken: usize,
+    left: usize,
+) -> u8
     requires { ⌜ (now depth ≡ old) × (lacking (now stack) old 2 ≡ false) × (taken ≡ 2) × (left ≡ 1) ⌝ }
     ensures { λ r. ⌜ storedOf (now (stack .entry)) (now (depth .entry)) answer ≡ (r, now (depth .exit), now (stack .exit)) ⌝ }
 {

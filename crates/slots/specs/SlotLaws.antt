@@ -1,13 +1,26 @@
 -- Laws of slots: five stores are a putSlot, and a slot is its five bytes.
-use Prim.Native.Nat.{ℕ, suc, _+_, _*_, _≤_, _<_}
+use Prim.Native.Nat.{ℕ, suc, _+_, _*_, _^_, _/_, _%_, _≤_, _<_}
 use mathlib.Core.Path.{_≡_, refl, sym, _∙_, ap}
 use mathlib.Core.List.{List, [], _∷_, _++_, append-assoc}
 use native.Mathlib.Omega.{arith}
 use native.Mathlib.Numerals.{towards-suc, add-five}
 use lib.ListN.{length, set, getD, take, drop, take-append-drop, length-append, length-take, length-drop}
 use lib.Seq.{set-comm, sets-eq, drop-cons, drop-drop, take-all}
-use Rattle.number.specs.NumberLaws.{word-bytes}
+use Rattle.number.specs.declared.Number.{Number}
+use Rattle.number.specs.Number.{wordOf, swappedOf}
+use Rattle.number.specs.NumberLaws.{word-bytes, swapped-word}
 use Rattle.slots.specs.Slots.{slot, numberIn, bytesOf, putSlot, putIn}
+
+-- b2 to b5 of slot i with the low byte first, as the machine holds a word, read and written
+abbrev pub fourIn : List ℕ → ℕ → ℕ
+fourIn s i = wordOf (getD s (5 * i + 4) 0) (getD s (5 * i + 3) 0) (getD s (5 * i + 2) 0) (getD s (5 * i + 1) 0)
+
+abbrev pub putFour : List ℕ → ℕ → ℕ → List ℕ
+putFour s i f = set (set (set (set s (5 * i + 1) (f % 256)) (5 * i + 2) (f / 2 ^ 8 % 256)) (5 * i + 3) (f / 2 ^ 16 % 256)) (5 * i + 4) (f / 2 ^ 24)
+
+pub four-word : (s : List ℕ) (i : ℕ) → ((k : ℕ) → getD s k 0 < 256) → swappedOf (fourIn s i) ≡ numberIn s i .word
+unfolding numberIn
+four-word s i b = swapped-word _ _ _ _ (b (5 * i + 1)) (b (5 * i + 2)) (b (5 * i + 3)) (b (5 * i + 4))
 
 -- five bytes are read: the slot
 abbrev pub fiveAt : List ℕ → ℕ → List ℕ
@@ -32,6 +45,14 @@ module _ (s : List ℕ) (i : ℕ) (h : 5 * i + 5 ≤ length s) where
       ∙ ap (λ (t : List ℕ). set t (5 * i + 3) d)
       (set-comm two (5 * i + 2) (5 * i) c a (λ h. omega arith) ∙ ap (λ (t : List ℕ). set t (5 * i + 2) c) (set-comm s (5 * i + 1) (5 * i) b a (λ h. omega arith))))
       ∙ five-stores a b c d e
+
+  -- a number, its word swapped
+  pub put-swapped : (n : Number) → n .word < 2 ^ 32 → set (putFour s i (swappedOf (n .word))) (5 * i) (n .b1) ≡ putIn s i n
+  unfolding bytesOf
+  put-swapped n h =
+      let w = n .word in
+      let are = word-bytes (w % 256) (w / 2 ^ 8 % 256) (w / 2 ^ 16 % 256) (w / 2 ^ 24) (omega arith) (omega arith) (omega arith) (omega arith) in
+      first-last (n .b1) _ _ _ _ ∙ ap (putSlot s i) (rw (are .0, are .1, are .2, are .3) refl)
 
   pub slot-five : slot s i ≡ fiveAt s (5 * i)
   unfolding slot
@@ -68,3 +89,10 @@ module _ (s : List ℕ) (i : ℕ) (h : 5 * i + 5 ≤ length s) where
 pub five-of : (p : List ℕ) → length p ≡ 5 → fiveAt p 0 ≡ p
 unfolding slot
 five-of p h = sym (slot-five p 0 (omega arith)) ∙ take-all 5 p (omega arith)
+
+-- five bytes of another list
+pub put-all : (s : List ℕ) (i : ℕ) → 5 * i + 5 ≤ length s → (p : List ℕ) → length p ≡ 5 → ((k : ℕ) → getD p k 0 < 256)
+    → set (putFour s i (fourIn p 0)) (5 * i) (getD p 0 0) ≡ putSlot s i p
+put-all s i h p f b =
+    let are = word-bytes (getD p 4 0) (getD p 3 0) (getD p 2 0) (getD p 1 0) (b 4) (b 3) (b 2) (b 1) in
+    first-last s i h (getD p 0 0) _ _ _ _ ∙ ap (putSlot s i) (rw (are .0, are .1, are .2, are .3) refl ∙ five-of p f)

@@ -3,16 +3,18 @@
 use crate::reach::lacks;
 use number::Number;
 ghost use mathlib.Core.Path.{_≡_};
-ghost use Prim.Native.Nat.{_+_, _*_, _≤_};
+ghost use mathlib.Core.Bool.{false};
+ghost use Prim.Native.Nat.{_+_, _-_, _*_, _≤_};
 ghost use lib.ListN.{length};
-ghost use Rattle.number.specs.Number.{number as numberOf, swappedOf, malformed};
-ghost use Rattle.slots.specs.Slots.{slot as slotOf, numberIn, putSlot, putIn};
-ghost use Rattle.slots.specs.Reach.{numberAt, putAt, swapped as swappedSlots, copied};
+ghost use Rattle.number.specs.Number.{number as numberOf, malformed};
+ghost use Rattle.slots.specs.Slots.{slot as slotOf, putSlot, putIn};
+ghost use Rattle.slots.specs.SlotLaws.{fourIn, putFour};
+ghost use Rattle.slots.specs.Reach.{lacking, numberAt, putAt, swapped as swappedSlots, copied};
 
 // b2 to b5 the other way round, as the machine holds a word: the compiler reads them at once.
 fn four_in(stack: &[u8], slot: usize) -> u32
     requires { ⌜ 5 * slot + 5 ≤ length (now stack) ⌝ }
-    ensures { λ r. ⌜ swappedOf r ≡ numberIn (now (stack .entry)) slot .word ⌝ }
+    ensures { λ r. ⌜ r ≡ fourIn (now (stack .entry)) slot ⌝ }
 {
     let at = 5 * slot;
     number::joined(stack[at + 4], stack[at + 3], stack[at + 2], stack[at + 1])
@@ -52,18 +54,24 @@ pub fn malformed_at(stack: &[u8], depth: usize, above: u8) -> bool
     })
 }
 
-// The word's bytes come first, so that the compiler stores them at once.
+// Lowest byte first, in a function of its own: the compiler stores them at once.
+fn put_four(stack: &mut [u8], slot: usize, four: u32)
+    requires { ⌜ 5 * slot + 5 ≤ length (now stack) ⌝ }
+    ensures { λ _. ⌜ now (stack .exit) ≡ putFour (now (stack .entry)) slot four ⌝ }
+{
+    let at = 5 * slot;
+    stack[at + 1] = (four % 256) as u8;
+    stack[at + 2] = (four / 256 % 256) as u8;
+    stack[at + 3] = (four / 65536 % 256) as u8;
+    stack[at + 4] = (four / 16777216) as u8;
+}
+
 fn put_in(stack: &mut [u8], slot: usize, n: Number)
     requires { ⌜ 5 * slot + 5 ≤ length (now stack) ⌝ }
     ensures { λ _. ⌜ now (stack .exit) ≡ putIn (now (stack .entry)) slot n ⌝ }
 {
-    let at = 5 * slot;
-    let word = n.word;
-    stack[at + 1] = (word / 16777216) as u8;
-    stack[at + 2] = (word / 65536 % 256) as u8;
-    stack[at + 3] = (word / 256 % 256) as u8;
-    stack[at + 4] = (word % 256) as u8;
-    stack[at] = n.b1;
+    put_four(stack, slot, number::swapped(n.word));
+    stack[5 * slot] = n.b1;
 }
 
 pub fn put_at(stack: &mut [u8], depth: usize, above: u8, b1: u8, word: u32)
@@ -101,6 +109,15 @@ fn put_five(stack: &mut [u8], slot: usize, five: [u8; 5])
     stack[at + 2] = five[2];
     stack[at + 3] = five[3];
     stack[at + 4] = five[4];
+}
+
+// Five bytes of the caller's into the top slot.
+pub(crate) fn fill(stack: &mut [u8], depth: usize, number: &[u8])
+    requires { ⌜ (lacking (now stack) depth 1 ≡ false) × (length (now number) ≡ 5) ⌝ }
+    ensures { λ _. ⌜ now (stack .exit) ≡ putSlot (now (stack .entry)) (depth - 1) (now (number .entry)) ⌝ }
+{
+    put_four(stack, depth - 1, four_in(number, 0));
+    stack[5 * (depth - 1)] = number[0];
 }
 
 // The two top slots, exchanged.

@@ -15,6 +15,11 @@ pub fn negate(stack: &mut [u8], depth: usize) -> u8
     }
     let b1 = slots::b1_at(stack, depth, 0);
     let word = slots::word_at(stack, depth, 0);
+    if b1 != 0 {
+        let flipped = std::num::wrapping_add_u32(word, 2147483648);
+        slots::put_at(stack, depth, 0, b1, flipped);
+        return 0;
+    }
     let n = number::negate(Number { b1, word });
     slots::put_at(stack, depth, 0, n.b1, n.word);
     0

@@ -57,8 +57,7 @@ loop-again : tie.Need-loop-again Inv-loop μ-loop
 loop-again c =
     let step = c .before .before .before .step in
     let l = c .before .before .before .before .before .before .before .before .loop in
-    let k : l .position < length (c .before .before .before .before .before .before .before .before .before .before .before .before .before .before .before .args .literals .now) = omega arith in
-    (
+    let k : l .position < length (c .before .before .before .before .before .before .before .before .before .before .before .before .before .before .before .args .literals .now) = omega arith in (
       sym (goes-on _ _ _ _ k _ _ (step .ensures) (omega arith)) ∙ l .inv .0,
       step .kept .0 ∙ l .inv .1,
       omega arith,

@@ -1,33 +1,29 @@
--- `put_in` meets its contract: five stores in a row put the slot.
+-- `put_in` meets its contract: the word's bytes and then the first put the slot.
+use Prim.Native.Nat.{ℕ, _*_}
+use mathlib.Core.Path.{_∙_, ap}
+use mathlib.Core.List.{List}
 use native.Mathlib.Omega.{arith}
 use borrow.Author.Needs.{needs}
-use lib.ListN.{length-set}
-use Rattle.slots.specs.Slots.{bytesOf}
-use Rattle.slots.specs.SlotLaws.{first-last}
+use lib.ListN.{length, set, length-set}
+use Rattle.slots.specs.SlotLaws.{putFour, put-swapped}
 use Rattle.slots.proofs.places.put_in.Statement.{statement}
 use Rattle.slots.proofs.places.put_in.Tie as tie
 
 returns : tie.Need-returns
-unfolding bytesOf
-returns c = first-last (c .args .stack .now) (c .args .slot) (c .pre) _ _ _ _ _
+returns c =
+    let p = c .before .before in
+    let i = c .before .before .before .before .before .before in
+    ap (λ (t : List ℕ). set t (5 * i .args .slot) (i .args .n .b1))
+    (p .put-four .ensures ∙ ap (putFour (i .args .stack .now) (i .args .slot)) (p .before .swapped .ensures))
+    ∙ put-swapped _ _ (i .pre) (i .args .n) (omega arith)
 
 pub put-in-spec : {M : Type 1} → statement M
 put-in-spec =
     tie.close
     (tie.spec
-    (λ c. search needs)
-    (λ c. search needs)
-    (λ c. search needs)
-    (λ c. search needs)
-    (λ c. search needs)
-    (λ c. search needs)
-    (λ c. simp length-set (omega arith))
-    (λ c. search needs)
-    (λ c. search needs)
-    (λ c. simp length-set (omega arith))
-    (λ c. search needs)
-    (λ c. search needs)
-    (λ c. simp length-set (omega arith))
-    (λ c. simp length-set (omega arith))
-    (λ c. simp length-set)
+    (λ c κs. tt)
+    (λ c κs. c .before .before .before .pre)
+    (λ c. omega (arith, c .before .before .before .before .before .before .pre))
+    (λ c. omega (arith, c .before .before .before .before .before .before .pre, c .before .before .put-four .kept .0))
+    (λ c. simp length-set (c .before .before .put-four .kept .0))
     returns)

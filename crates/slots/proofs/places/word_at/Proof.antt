@@ -3,6 +3,8 @@ use Prim.Native.Nat.{ℕ}
 use mathlib.Core.Path.{sym, _∙_, ap}
 use native.Mathlib.Omega.{arith}
 use Rattle.number.specs.declared.Number.{Number}
+use Rattle.number.specs.Number.{swappedOf}
+use Rattle.slots.specs.SlotLaws.{four-word}
 use Rattle.slots.specs.ReachLaws.{has, none-at, number-at}
 use Rattle.slots.proofs.places.word_at.Statement.{statement}
 use Rattle.slots.proofs.places.word_at.Tie as tie
@@ -16,7 +18,10 @@ returns c = sym (ap word (none-at _ _ _ (sym (c .before .lacks .ensures) ∙ c .
 returns-2 : tie.Need-returns-2
 returns-2 c =
     let e = c .before .before in
-    c .swapped .ensures ∙ c .before .four-in .ensures ∙ sym (ap word (number-at _ _ _ (sym (e .before .lacks .ensures) ∙ e .if1 .left)))
+    c .swapped .ensures
+    ∙ ap swappedOf (c .before .four-in .ensures)
+    ∙ four-word _ _ (λ k. omega (arith, e .before .before .shared-slice-known .given k))
+    ∙ sym (ap word (number-at _ _ _ (sym (e .before .lacks .ensures) ∙ e .if1 .left)))
 
 pub word-at-spec : {M : Type 1} → statement M
 word-at-spec =
