@@ -10,8 +10,8 @@ use lib.Dec.{ltb}
 use lib.ListN.{length}
 use borrow.Author.Tests.{ltb-false}
 use Rattle.slots.specs.Reports.{overLimits, noRoom}
-use Rattle.slots.specs.LimitLaws.{Within, within, within-of}
-use Rattle.literals.specs.Literals.{Operation, exchange, delete, duplicate, one, two, unknown, operationOf, takes, leaves}
+use Rattle.slots.specs.LimitLaws.{within, within-of}
+use Rattle.literals.specs.Literals.{Operation, exchange, delete, duplicate, one, two, unknown, operationOf, takes}
 use Rattle.literals.specs.Reports.{tooManyLiterals, notInTable, noRoomFor, malformedOperand, tooBig, reportOf}
 use Rattle.literals.specs.Operate.{operateOf}
 use Rattle.calculator.specs.Run.{runOf}
