@@ -62,15 +62,6 @@ below a b h = go (eq-or-lt-of-le h)
         ∙ sub-below a (suc (pred b)) k (omega arith)
         ∙ sym (minus (b - a) k (omega arith))
 
-pub first-larger : (s t m n : ℕ) → s < 2 → t < 2 → (s ≡ t → ⊥) → n ≤ m → signed s m +ℤ signed t n ≡ signed s (m - n)
-first-larger zero zero m n h g d l = absurd (d refl)
-first-larger zero (suc t) m n h g d l = above m n l
-first-larger (suc s) zero m n h g d l = +ℤ-comm (negℤ (pos m)) (pos n) ∙ below n m l
-first-larger (suc s) (suc t) m n h g d l = absurd (d (omega arith))
-
-pub second-larger : (s t m n : ℕ) → s < 2 → t < 2 → (s ≡ t → ⊥) → m ≤ n → signed s m +ℤ signed t n ≡ signed t (n - m)
-second-larger s t m n h g d l = +ℤ-comm (signed s m) (signed t n) ∙ first-larger t s n m g h (λ e. d (sym e)) l
-
 -- ---- sums in two's complement on 64 bits
 
 abbrev pub twos : ℕ → ℕ → ℕ

@@ -8,7 +8,7 @@ use native.Mathlib.Omega.{arith}
 use borrow.Author.Tests.{eqb-true, eqb-false, eq-eqb, ne-eqb}
 use lib.Dec.{eqb}
 use Rattle.number.specs.declared.Number.{Number}
-use Rattle.number.specs.Number.{b2, b3, b4, wordOf, swappedOf, sign, mantissa, fullOf, low, complementOf, shortMagnitude, halves, shortOf, passesZeroTest}
+use Rattle.number.specs.Number.{b2, b3, b4, wordOf, swappedOf, sign, mantissa, fullOf, low, complementOf, shortMagnitude, halves, passesZeroTest}
 
 pub record Bytes (x : Number) : Type 0 where
   pub b1< : x .b1 < 256

@@ -19,7 +19,6 @@ use Rattle.number.specs.RestackLaws.{restack-full, restack-some, restack
 pub record Stands (s v : ℕ) (y : Number) : Type 0 where
   pub signs : sign y ≡ s
   pub low-exponent : 129 ≤ y .b1
-  pub high-exponent : y .b1 ≤ 144
   pub worth : mantissa y * 2 ^ y .b1 ≡ v * 2 ^ 160
   pub exact : mantissa y ≡ v * 2 ^ leadingZeros 32 v
 
@@ -40,7 +39,6 @@ full-of-short s v hs h g =
     record {
       signs = sign-full s (160 - z) m hs;
       low-exponent = omega (arith, t .1);
-      high-exponent = omega (arith, t .1);
       exact = same;
       worth =
           ap (λ (k : ℕ). k * 2 ^ (160 - z)) same

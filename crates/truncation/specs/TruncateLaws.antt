@@ -1,9 +1,9 @@
 -- A law for each case of truncation.
-use Prim.Native.Nat.{ℕ, _+_, _-_, _^_, _/_, _≤_, _<_}
+use Prim.Native.Nat.{_+_, _-_, _^_, _/_, _≤_, _<_}
 use mathlib.Core.Path.{_≡_, refl, ap}
-use mathlib.Core.Bool.{Bool, true, false, _&&_}
+use mathlib.Core.Bool.{Bool, true, false, _&&_, and-eq-true-iff}
 use native.Mathlib.Omega.{arith}
-use borrow.Author.Tests.{lt-ltb, le-ltb, eq-eqb, ne-eqb, eqb-true, eqb-false, ltb-true}
+use borrow.Author.Tests.{lt-ltb, le-ltb, eq-eqb, ne-eqb, eqb-true, ltb-true}
 use lib.Dec.{eqb, ltb}
 use Rattle.number.specs.declared.Number.{Number}
 use Rattle.number.specs.declared.form.Form.{Form}
@@ -41,14 +41,8 @@ module _ (x : Number) where
       go false p q r e f g = refl
 
   pub taken-145 : taken65536 x ≡ true → x .b1 ≡ 145
-  taken-145 t = go (eqb (x .b1) 145) refl
-    where
-      go : (p : Bool) → eqb (x .b1) 145 ≡ p → x .b1 ≡ 145
-      go true e = eqb-true _ _ e
-      go false e =
-          let no : taken65536 x ≡ false = taken-not-145 (eqb-false _ _ e) in
-          let z : _≡_ {A = ℕ} 0 1 = cc in
-          absurd (omega arith)
+  unfolding taken65536
+  taken-145 t = eqb-true _ _ (and-eq-true-iff _ _ .0 t .0)
 
 -- ---- truncation
 

@@ -13,9 +13,9 @@ use lib.Ieee.{Float, fin, binary64}
 use lib.Ieee.Exact.{HasValue, round-exact}
 use Rattle.number.specs.declared.Number.{Number}
 use Rattle.number.specs.declared.form.Form.the-variants.{Full, Short}
-use Rattle.number.specs.Number.{formOf, b2, low, complementOf, sign, mantissa, shortMagnitude}
+use Rattle.number.specs.Number.{formOf, sign, mantissa, shortMagnitude}
 use Rattle.number.specs.NumberLaws.{Bytes, places, magnitude-cases, magnitude-lt}
-use Rattle.number.specs.FormLaws.{form-bytes, form-odd}
+use Rattle.number.specs.FormLaws.{form-bytes}
 use Rattle.number.specs.Value.{signed, shortValue, fullValue}
 use Rattle.number.specs.ValueLaws.{short-value, signed-zero}
 use Rattle.number.specs.RestackLaws.{restack-full, restack-zero, restack-some}
@@ -56,16 +56,8 @@ of-full y b h =
 
 -- what is 0 away from zero has no sign: 00 FF 00 00 is odd
 zero-positive : (x : Number) → Bytes x → formOf x ≡ Short → shortMagnitude x ≡ 0 → sign x ≡ 0
-zero-positive x b f z = ⊎-elim (λ p. p .0) (λ p. absurd (no p)) (magnitude-cases x b)
-  where
-    no : (sign x ≡ 1) × (shortMagnitude x ≡ complementOf (low x)) → ⊥
-    no p =
-        let w = form-bytes x Short f in
-        let n : low x ≡ 0 = omega (arith, p .1) in
-        let ff : b2 x ≡ 255 = ⊎-elim (λ q. omega arith) (λ q. q) (w .1) in
-        let o = form-odd x (w .0) (omega arith) (omega (arith, places (x .word))) in
-        let k : _≡_ {A = ℕ} 0 1 = cc (o, f) in
-        omega arith
+zero-positive x b f z =
+    ⊎-elim (λ p. p .0) (λ p. absurd (⊎-elim (λ q. omega arith) (λ q. omega (arith, p .1)) (form-bytes x Short f .1))) (magnitude-cases x b)
 
 -- A full number's double is exactly its value, mantissa times 2^(b1 - 160), and a short number's 256 b4 + b3, less 65,536 if b2 is FF: the sign
 -- is that of the value, and zero is +0. (`fullValue` has the factor 2^160 in it.)
