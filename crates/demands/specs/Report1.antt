@@ -18,38 +18,27 @@ use Rattle.calculator.specs.Run.{runOf}
 use Rattle.demands.specs.Accepted.{accepted}
 use Rattle.demands.specs.Counts.{takesOf, leavesOf, takes-are, leaves-are}
 use Rattle.demands.specs.Demand1.{refused-run}
-use Rattle.demands.specs.Demand2.{new-depth, after-two, after-one, after-delete, after-duplicate, after-exchange}
+use Rattle.demands.specs.Demand2.{stands, new-depth, after-two, after-one, after-delete, after-duplicate, after-exchange}
 use Rattle.demands.specs.Demand2Reads.{neither}
 use Rattle.demands.specs.Demand2Run.{Leads, none, more, Stopped, position-is-done}
 
 module _ (s : List ℕ) (d l : ℕ) (ok : reportOf s d l ≡ 0) where
-  same-length : (o : Operation) → operationOf l ≡ o → length (operateOf s d l .1) ≡ length s
-  unfolding notInTable
-  same-length exchange e = after-exchange s d l ok e .0
-  same-length delete e = ap length (after-delete s d l ok e)
-  same-length duplicate e = after-duplicate s d l ok e .long
-  same-length (one f) e = after-one s d l ok f e .2 .long
-  same-length (two f) e = after-two s d l ok f e .2 .long
-  same-length unknown e = absurd (true≢false (sym (ap notInTable e) ∙ accepted s d l .0 ok .0 .known))
-
-  deep-enough : (o : Operation) → operationOf l ≡ o → 5 * d ≤ length s → takesOf o ≤ d → 5 * (d - takesOf o + leavesOf o) ≤ length s
-  unfolding noRoomFor noRoom
-  deep-enough exchange e w t = omega arith
-  deep-enough delete e w t = omega arith
-  deep-enough duplicate e w t = omega (arith, ltb-false (length s) (5 * (d + 1)) (simp e at (accepted s d l .0 ok .0 .room)))
-  deep-enough (one f) e w t = omega arith
-  deep-enough (two f) e w t = omega arith
-  deep-enough unknown e w t = omega arith
+  kept : (o : Operation) → operationOf l ≡ o → (length (operateOf s d l .1) ≡ length s) × (5 * (d - takesOf o + leavesOf o) ≤ length s)
+  unfolding notInTable noRoomFor noRoom
+  kept exchange e = let w = stands s d l ok exchange e in (after-exchange s d l ok e .0, omega arith)
+  kept delete e = let w = stands s d l ok delete e in (ap length (after-delete s d l ok e), omega arith)
+  kept duplicate e =
+      let w = stands s d l ok duplicate e in
+      (after-duplicate s d l ok e .long, omega (arith, ltb-false (length s) (5 * (d + 1)) (simp e at (accepted s d l .0 ok .0 .room))))
+  kept (one f) e = let w = stands s d l ok (one f) e in (after-one s d l ok f e .2 .long, omega arith)
+  kept (two f) e = let w = stands s d l ok (two f) e in (after-two s d l ok f e .2 .long, omega arith)
+  kept unknown e = absurd (true≢false (sym (ap notInTable e) ∙ accepted s d l .0 ok .0 .known))
 
   stays-within : overLimits (operateOf s d l .1) (operateOf s d l .0 .depth) ≡ false
   stays-within =
-      let p = accepted s d l .0 ok .0 in
-      let w = within-of s d (p .limits) in
-      let long = same-length (operationOf l) refl in
-      let t = ltb-false d (takes l) (p .enough) in
-      let deep = deep-enough (operationOf l) refl (w .deep) (omega (arith, takes-are l)) in
-      within _ _
-      (record { short = omega (arith, w .short, long); deep = omega (arith, long, deep, new-depth s d l ok, takes-are l, leaves-are l) })
+      let w = within-of s d (accepted s d l .0 ok .0 .limits) in
+      let k = kept (operationOf l) refl in
+      within _ _ (record { short = omega arith; deep = omega (arith, new-depth s d l ok, takes-are l, leaves-are l) })
 
 -- the literals that were done leave the stack and the depth within the limits
 led-within : {ls s : List ℕ} {d : ℕ} {t : List ℕ} {e : ℕ} → Leads ls s d t e → overLimits s d ≡ false → overLimits t e ≡ false
