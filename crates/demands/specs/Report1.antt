@@ -23,6 +23,7 @@ use Rattle.demands.specs.Demand2Reads.{neither}
 use Rattle.demands.specs.Demand2Run.{Leads, none, more, Stopped, position-is-done}
 
 module _ (s : List ℕ) (d l : ℕ) (ok : reportOf s d l ≡ 0) where
+  -- an accepted literal keeps the stack's length, and its new depth is within it
   kept : (o : Operation) → operationOf l ≡ o → (length (operateOf s d l .1) ≡ length s) × (5 * (d - takesOf o + leavesOf o) ≤ length s)
   unfolding notInTable noRoomFor noRoom
   kept exchange e = let w = stands s d l ok exchange e in (after-exchange s d l ok e .0, omega arith)

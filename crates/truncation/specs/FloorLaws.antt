@@ -1,6 +1,6 @@
 -- Int of a negative full number: what is left when the whole part is taken away is the difference of the mantissas.
 use Prim.Native.Nat.{ℕ, _+_, _*_, _-_, _^_, _/_, _%_, _≤_, _<_}
-use mathlib.Core.Path.{_≡_, refl, sym, _∙_, ap, ap₂}
+use mathlib.Core.Path.{_≡_, refl, _∙_, ap, ap₂}
 use mathlib.Core.Logic.{_⊎_, inl, inr}
 use mathlib.Core.Bool.{Bool, true, false, cond}
 use borrow.Author.Tests.{ne-eqb, eq-eqb}
@@ -143,22 +143,16 @@ module _ (x : Number) (b : Bytes x) (s : sign x ≡ 1) (f : 0 < x .b1) where
       (omega arith) (sign-full 0 (160 - k) (v * 2 ^ k) (omega arith))
       (mantissa-full 0 (160 - k) (v * 2 ^ k) (d .top) (omega (arith, cleared-le (mantissa x) k))) (omega arith)
     where
-      again : (v : ℕ) → 0 < v → v < 2 ^ 16 → complementOf (complementOf v) ≡ v
-      again v p q = omega arith
-
-      bytes-of : (c : ℕ) → c < 2 ^ 16 → Bytes (halves 255 c)
-      bytes-of c p = omega arith
-
       short-opposite : (v : ℕ) → 0 < v → v < 2 ^ 16 → opposite (halves 255 (complementOf v)) ≡ fullOfShort 0 v
       short-opposite v p q =
           let c = complementOf v in
           let y = halves 0 v in
-          let sign-y : sign y ≡ 0 = positive v q in
-          let near : shortMagnitude y ≡ v = simp (eq-eqb (sign y) 0 sign-y) (low-halves 0 v q) in
-          ap restacked (minus (halves 255 c) (bytes-of c (omega arith)) refl (negative c (omega arith) .0) ∙ ap (λ (l : ℕ). halves 0 (complementOf l)) (low-halves 255 c (omega arith)))
-          ∙ ap (λ (l : ℕ). restacked (halves 0 l)) (again v p q)
+          let back : complementOf c ≡ v = omega arith in
+          let near : shortMagnitude y ≡ v = simp (eq-eqb (sign y) 0 (positive v q)) (low-halves 0 v q) in
+          let other : negated (halves 255 c) ≡ halves 0 (complementOf (low (halves 255 c))) = minus (halves 255 c) (omega arith) refl (negative c (omega arith) .0) in
+          ap restacked (rw (low-halves 255 c (omega arith), back) at other)
           ∙ restack-some y refl (omega arith)
-          ∙ ap₂ fullOfShort sign-y near
+          ∙ ap₂ fullOfShort (positive v q) near
 
   -- one more where a part was cut off
   pub short-up : 129 ≤ x .b1 → x .b1 < 145 → (cleared k (mantissa x) ≡ mantissa x → ⊥) → intOf x ≡ Done (halves 255 (65535 - mantissa x / 2 ^ k))
@@ -170,16 +164,9 @@ module _ (x : Number) (b : Bytes x) (s : sign x ≡ 1) (f : 0 < x .b1) where
       lower : (v : ℕ) → 0 < v → v < 2 ^ 16 → differenceOf (halves 255 (complementOf v)) shortOne ≡ Done (halves 255 (65535 - v))
       lower v p q =
           let c = complementOf v in
-          let l : low (halves 255 c) ≡ c = low-halves 255 c (omega arith) in
-          let one : sign (halves 255 c) ≡ 1 = negative c (omega arith) .0 in
-          less-one (halves 255 c) refl one (le-trans (some v p q) (le-of-eq (sym l)))
-          ∙ ap (λ (n : ℕ). Done (halves 255 n)) (ap (λ (n : ℕ). n - 1) l ∙ less v p q)
-        where
-          some : (v : ℕ) → 0 < v → v < 2 ^ 16 → 0 < complementOf v
-          some v p q = omega arith
-
-          less : (v : ℕ) → 0 < v → v < 2 ^ 16 → complementOf v - 1 ≡ 65535 - v
-          less v p q = omega arith
+          let less : c - 1 ≡ 65535 - v = omega arith in
+          (rw (low-halves 255 c (omega arith)) at (less-one (halves 255 c) refl (negative c (omega arith) .0))) (omega arith)
+          ∙ ap (λ (n : ℕ). Done (halves 255 n)) less
 
   pub cut-full : 145 ≤ x .b1 → x .b1 < 160 → taken65536 x ≡ false → Cut (record { b1 = x .b1; word = cleared k (x .word) })
   cut-full h g t =
