@@ -93,12 +93,15 @@ beyond : (z : ℤ) (e : ℕ) → 2 ^ 32 ≤ natAbs z → endedSum z e ≡ carrie
 unfolding endedSum
 beyond z e h = simp (le-leb _ _ h)
 
+pub carried-255 : (z : ℤ) (e : ℕ) → 2 ^ 32 ≤ natAbs z → e ≡ 255 → endedSum z e ≡ TooBig
+carried-255 z e h k = beyond z e h ∙ simp (eq-eqb (e + 1) 256 (omega arith))
+
 module _ (s m e : ℕ) (h : s < 2) where
   pub sum-ended : m < 2 ^ 32 → endedSum (signed s m) e ≡ ended s m (e + 256) 0
   sum-ended g = within (signed s m) e (rw natAbs-signed g) ∙ ended-signed s m e h
 
   pub sum-too-big : 2 ^ 32 ≤ m → e ≡ 255 → endedSum (signed s m) e ≡ TooBig
-  sum-too-big g k = beyond (signed s m) e (rw natAbs-signed g) ∙ simp (eq-eqb (e + 1) 256 (omega arith))
+  sum-too-big g k = carried-255 (signed s m) e (rw natAbs-signed g) k
 
   pub sum-carried : 2 ^ 32 ≤ m → (e ≡ 255 → ⊥) → endedSum (signed s m) e ≡ ended s ((m + 1 - s) / 2) (e + 1 + 256) 0
   sum-carried g k =

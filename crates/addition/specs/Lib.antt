@@ -3,4 +3,3 @@ pub mod SignedLaws
 pub mod AdditionLaws
 pub mod ShortRouteLaws
 pub mod TooBig
-pub mod Sums

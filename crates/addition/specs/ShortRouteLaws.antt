@@ -1,16 +1,16 @@
 -- The short route by the wrapped sum, its carry and the sign bytes, which is how the code goes.
-use Prim.Native.Nat.{ℕ, suc, _+_, _*_, _-_, _^_, _/_, _%_, _≤_, _<_}
+use Prim.Native.Nat.{ℕ, suc, _+_, _*_, _-_, _^_, _%_, _≤_, _<_}
 use mathlib.Core.Path.{_≡_, refl, sym, _∙_, ap}
 use mathlib.Core.Bool.{Bool, true, false, cond}
-use borrow.Author.Tests.{lt-ltb, le-ltb, le-leb, lt-leb, eq-eqb, ne-eqb, ltb-true, ltb-false}
+use borrow.Author.Tests.{lt-ltb, le-leb, lt-leb, eq-eqb, ne-eqb, ltb-true, ltb-false}
 use native.Mathlib.Omega.{arith}
-use lib.Dec.{ltb, eqb}
+use lib.Dec.{ltb}
 use lib.IntN.{ℤ, pos, negsuc, negℤ, _+ℤ_, _-ℤ_, +ℤ-comm, +ℤ-assoc}
 use Rattle.number.specs.declared.Number.{Number}
 use Rattle.number.specs.Number.{sign, low, complementOf, halves}
 use Rattle.number.specs.Value.{shortValue}
 use Rattle.ending.specs.declared.answer.Answer.the-variants.{Done}
-use Rattle.addition.specs.Addition.{negative, storedShort, shortSum, shortOfWhole, fullRoute, shortRoute, sumOf}
+use Rattle.addition.specs.Addition.{storedShort, shortSum, shortOfWhole, fullRoute, shortRoute, sumOf}
 use Rattle.addition.specs.SignedLaws.{same-sign, above, below}
 
 -- a wrapped sum is below its first part exactly when it carried
@@ -39,15 +39,6 @@ differences a b d e =
     ∙ ap (λ (z : ℤ). pos a +ℤ z) (sym (+ℤ-assoc m (pos b) n) ∙ ap (λ (z : ℤ). z +ℤ n) (+ℤ-comm m (pos b)) ∙ +ℤ-assoc (pos b) m n)
     ∙ sym (+ℤ-assoc (pos a) (pos b) (m +ℤ n))
     ∙ ap (λ (z : ℤ). pos (a + b) +ℤ z) (same-sign 1 d e)
-
-module _ (x y : Number) (z : ℤ) (e : shortSum x y ≡ z) where
-  pub stored : storedShort z ≡ true → shortRoute x y ≡ Done (shortOfWhole z)
-  unfolding shortRoute
-  stored t = ap (λ (w : ℤ). cond (storedShort w) (Done (shortOfWhole w)) (fullRoute x y)) e ∙ simp t
-
-  beyond : storedShort z ≡ false → shortRoute x y ≡ fullRoute x y
-  unfolding shortRoute
-  beyond t = ap (λ (w : ℤ). cond (storedShort w) (Done (shortOfWhole w)) (fullRoute x y)) e ∙ simp t
 
 -- the low halves, added as sixteen-bit numbers
 abbrev pub wrapped : Number → Number → ℕ
@@ -93,30 +84,13 @@ module _ (x y : Number) where
       let both : 65536 * sign x + 65536 * sign y ≡ 2 ^ 16 * negatives x y = omega arith in
       differences (low x) (low y) (65536 * sign x) (65536 * sign y) ∙ ap (λ (n : ℕ). pos (low x + low y) -ℤ pos n) both
 
-  short-positive : carry ≡ negatives x y → shortRoute x y ≡ Done (halves 0 (wrapped x y))
-  short-positive h =
-      stored x y (pos (wrapped x y)) (sum-as ∙ bit-0 (low x + low y) (wrapped x y) carry (negatives x y) total (omega arith) h)
-      (le-leb (wrapped x y) 65535 (omega arith))
+  -- the short route, by what the sum comes to
+  routed : {z : ℤ} → shortSum x y ≡ z → shortRoute x y ≡ cond (storedShort z) (Done (shortOfWhole z)) (fullRoute x y)
+  unfolding shortRoute
+  routed e = ap (λ (w : ℤ). cond (storedShort w) (Done (shortOfWhole w)) (fullRoute x y)) e
 
-  short-negative : carry + 1 ≡ negatives x y → shortRoute x y ≡ Done (halves 255 (wrapped x y))
-  short-negative h =
-      let w = wrapped x y in
-      let k = 65535 - w in
-      let same : complementOf (suc k) ≡ w = again w (omega arith) in
-      stored x y (negsuc k) (sum-as ∙ bit-1 (low x + low y) w carry (negatives x y) total (omega arith) h) (simp (le-leb k 65535 (omega arith)))
-      ∙ ap (λ (n : ℕ). Done (halves 255 n)) same
-    where
-      again : (w : ℕ) → w < 2 ^ 16 → complementOf (suc (65535 - w)) ≡ w
-      again w f = omega arith
+  -- ---- how a sum goes
 
-  short-beyond : (carry ≡ negatives x y → ⊥) → (carry + 1 ≡ negatives x y → ⊥) → shortRoute x y ≡ fullRoute x y
-  short-beyond h g =
-      beyond x y (pos (low x + low y) -ℤ pos (2 ^ 16 * negatives x y)) sum-as
-      (beyond-bits (low x + low y) (wrapped x y) carry (negatives x y) total (omega arith) h g)
-
--- ---- how a sum goes
-
-module _ (x y : Number) where
   pub first-full : (x .b1 ≡ 0 → ⊥) → sumOf x y ≡ fullRoute x y
   unfolding sumOf
   first-full h = simp (ne-eqb (x .b1) 0 h)
@@ -127,15 +101,27 @@ module _ (x y : Number) where
     second-full h = simp (eq-eqb (x .b1) 0 f, ne-eqb (y .b1) 0 h)
 
     module _ (g : y .b1 ≡ 0) where
-      pub short : sumOf x y ≡ shortRoute x y
+      short : sumOf x y ≡ shortRoute x y
       unfolding sumOf
       short = simp (eq-eqb (x .b1) 0 f, eq-eqb (y .b1) 0 g)
 
       pub sum-positive : carryOf (wrapped x y) (low x) ≡ negatives x y → sumOf x y ≡ Done (halves 0 (wrapped x y))
-      sum-positive h = short ∙ short-positive x y h
+      sum-positive h =
+          short
+          ∙ routed (sum-as ∙ bit-0 (low x + low y) (wrapped x y) carry (negatives x y) total (omega arith) h)
+          ∙ simp (le-leb (wrapped x y) 65535 (omega arith))
 
       pub sum-negative : carryOf (wrapped x y) (low x) + 1 ≡ negatives x y → sumOf x y ≡ Done (halves 255 (wrapped x y))
-      sum-negative h = short ∙ short-negative x y h
+      sum-negative h =
+          let w = wrapped x y in
+          let k = 65535 - w in
+          short
+          ∙ routed (sum-as ∙ bit-1 (low x + low y) w carry (negatives x y) total (omega arith) h)
+          ∙ simp (le-leb k 65535 (omega arith)) (ap (λ (n : ℕ). Done (halves 255 n)) (again w (omega arith)))
+        where
+          again : (w : ℕ) → w < 2 ^ 16 → complementOf (suc (65535 - w)) ≡ w
+          again w l = omega arith
 
       pub sum-beyond : (carryOf (wrapped x y) (low x) ≡ negatives x y → ⊥) → (carryOf (wrapped x y) (low x) + 1 ≡ negatives x y → ⊥) → sumOf x y ≡ fullRoute x y
-      sum-beyond h k = short ∙ short-beyond x y h k
+      sum-beyond h k =
+          short ∙ routed sum-as ∙ simp (beyond-bits (low x + low y) (wrapped x y) carry (negatives x y) total (omega arith) h k)

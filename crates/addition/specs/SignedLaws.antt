@@ -1,14 +1,13 @@
 -- Whole numbers as a sign and a magnitude: sums, and the floor of document 01's shifts, for any number of places.
-use Prim.Native.Nat.{ℕ, zero, suc, pred, _+_, _-_, _^_, _/_, _%_, _≤_, _<_}
+use Prim.Native.Nat.{ℕ, zero, suc, _+_, _-_, _^_, _/_, _%_, _≤_, _<_}
 use mathlib.Core.Path.{_≡_, refl, sym, _∙_, ap}
-use mathlib.Core.Logic.{_⊎_, inl, inr}
 use mathlib.Core.Bool.{Bool, true, false}
 use borrow.Author.Tests.{lt-ltb, le-ltb, leb-true, leb-false}
 use lib.Dec.{leb}
-use native.Mathlib.Nat.{div-eq-of-lt, add-div-right, two-pow-succ, eq-or-lt-of-le}
+use native.Mathlib.Nat.{div-eq-of-lt, add-div-right, two-pow-succ}
 use native.Mathlib.Numerals.{add-one}
 use native.Mathlib.Omega.{arith}
-use lib.IntN.{ℤ, pos, negsuc, negℤ, natAbs, subℕ, _+ℤ_, +ℤ-comm}
+use lib.IntN.{ℤ, pos, negsuc, negℤ, natAbs, subℕ, _+ℤ_, +ℤ-comm, negℤ-negℤ, negℤ-+ℤ}
 use lib.Pow.{pow-pos}
 use lib.Signed.{shrZ}
 use Rattle.number.specs.Value.{signed}
@@ -37,10 +36,7 @@ sub-below a b k h = let e : b - suc a ≡ k = omega arith in simp (lt-ltb a b (o
 
 pub same-sign : (s m n : ℕ) → signed s m +ℤ signed s n ≡ signed s (m + n)
 same-sign zero m n = refl
-same-sign (suc s) zero zero = refl
-same-sign (suc s) zero (suc n) = sub-below 0 (suc n) n (omega arith) ∙ sym (minus (0 + suc n) n (omega arith))
-same-sign (suc s) (suc m) zero = sub-below 0 (suc m) m (omega arith) ∙ sym (minus (suc m + 0) m (omega arith))
-same-sign (suc s) (suc m) (suc n) = sym (minus (suc m + suc n) (suc (m + n)) (omega arith))
+same-sign (suc s) m n = sym (negℤ-+ℤ (pos m) (pos n))
 
 -- a - b, where b is no more
 pub above : (a b : ℕ) → b ≤ a → pos a +ℤ negℤ (pos b) ≡ pos (a - b)
@@ -49,27 +45,11 @@ above a (suc b) h = simp (le-ltb a (suc b) h)
 
 -- a - b, where a is no more
 pub below : (a b : ℕ) → a ≤ b → pos a +ℤ negℤ (pos b) ≡ negℤ (pos (b - a))
-below a b h = go (eq-or-lt-of-le h)
-  where
-    go : (a ≡ b) ⊎ (a < b) → pos a +ℤ negℤ (pos b) ≡ negℤ (pos (b - a))
-    go (inl e) =
-        let none : a - b ≡ 0 = omega arith in
-        let none-either : b - a ≡ 0 = omega arith in
-        above a b (omega arith) ∙ ap pos none ∙ sym (ap (λ (i : ℕ). negℤ (pos i)) none-either)
-    go (inr l) =
-        let k = b - suc a in
-        ap (λ (z : ℤ). pos a +ℤ z) (minus b (pred b) (omega arith))
-        ∙ sub-below a (suc (pred b)) k (omega arith)
-        ∙ sym (minus (b - a) k (omega arith))
-
-pub first-larger : (s t m n : ℕ) → s < 2 → t < 2 → (s ≡ t → ⊥) → n ≤ m → signed s m +ℤ signed t n ≡ signed s (m - n)
-first-larger zero zero m n h g d l = absurd (d refl)
-first-larger zero (suc t) m n h g d l = above m n l
-first-larger (suc s) zero m n h g d l = +ℤ-comm (negℤ (pos m)) (pos n) ∙ below n m l
-first-larger (suc s) (suc t) m n h g d l = absurd (d (omega arith))
-
-pub second-larger : (s t m n : ℕ) → s < 2 → t < 2 → (s ≡ t → ⊥) → m ≤ n → signed s m +ℤ signed t n ≡ signed t (n - m)
-second-larger s t m n h g d l = +ℤ-comm (signed s m) (signed t n) ∙ first-larger t s n m g h (λ e. d (sym e)) l
+below a b h =
+    +ℤ-comm (pos a) (negℤ (pos b))
+    ∙ ap (λ (z : ℤ). negℤ (pos b) +ℤ z) (sym (negℤ-negℤ (pos a)))
+    ∙ sym (negℤ-+ℤ (pos b) (negℤ (pos a)))
+    ∙ ap negℤ (above b a h)
 
 -- ---- sums in two's complement on 64 bits
 
@@ -118,26 +98,21 @@ sum-set (suc zero) m (suc (suc o)) n w t a b h g e l c f = absurd (omega arith)
 
 -- ---- the shift
 
-order : (a b : ℕ) → (a ≤ b) ⊎ (b < a)
-order a b = go (leb a b) refl
-  where
-    go : (t : Bool) → leb a b ≡ t → (a ≤ b) ⊎ (b < a)
-    go true h = inl (leb-true a b h)
-    go false h = inr (leb-false a b h)
-
 -- The floor of (x + p) / 2p of a whole number with sign s and magnitude m: its magnitude is (m + p - s) / 2p, so halves go towards plus infinity.
 floor-half : (s m p : ℕ) → s < 2 → 0 < p → shrZ (signed s m +ℤ pos p) (p + p) ≡ signed s ((m + p - s) / (p + p))
 floor-half zero m p h g = let e : m + p ≡ m + p - 0 = omega arith in ap (λ (i : ℕ). pos (i / (p + p))) e
 floor-half (suc zero) zero p h g =
     ap pos (div-eq-of-lt (omega arith)) ∙ sym (ap (λ (i : ℕ). negℤ (pos i)) (div-eq-of-lt {n = 0 + p - 1} {m = p + p} (omega arith)))
-floor-half (suc zero) (suc m) p h g = go (order p m)
+floor-half (suc zero) (suc m) p h g = go (leb p m) refl
   where
-    go : (p ≤ m) ⊎ (m < p) → shrZ (negsuc m +ℤ pos p) (p + p) ≡ negℤ (pos ((suc m + p - 1) / (p + p)))
-    go (inl l) =
+    go : (t : Bool) → leb p m ≡ t → shrZ (negsuc m +ℤ pos p) (p + p) ≡ negℤ (pos ((suc m + p - 1) / (p + p)))
+    go true e =
+        let l : p ≤ m = leb-true p m e in
         let more : suc m + p - 1 ≡ (m - p) + (p + p) = omega arith in
         ap (λ (z : ℤ). shrZ z (p + p)) (sub-below p (suc m) (m - p) (omega arith))
         ∙ sym (minus ((suc m + p - 1) / (p + p)) ((m - p) / (p + p)) (ap (λ (i : ℕ). i / (p + p)) more ∙ add-div-right (m - p) (omega arith) ∙ add-one _))
-    go (inr l) =
+    go false e =
+        let l : m < p = leb-false p m e in
         let up : negsuc m +ℤ pos p ≡ pos (p - suc m) = simp (le-ltb p (suc m) l) in
         ap (λ (z : ℤ). shrZ z (p + p)) up
         ∙ ap pos (div-eq-of-lt (omega arith))

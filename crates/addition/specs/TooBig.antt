@@ -3,7 +3,7 @@ use Prim.Native.Nat.{ℕ, _+_, _^_, _≤_, _<_}
 use mathlib.Core.Path.{_≡_, refl, _∙_}
 use mathlib.Core.Logic.{_↔_, _⊎_, inl, inr}
 use mathlib.Core.Bool.{Bool, true, false, cond}
-use borrow.Author.Tests.{le-leb, eq-eqb, leb-true, eqb-true, eqb-false}
+use borrow.Author.Tests.{leb-true, eqb-true, eqb-false}
 use native.Mathlib.Nat.{eq-zero-or-pos}
 use native.Mathlib.Omega.{arith}
 use lib.Dec.{leb, eqb}
@@ -18,16 +18,13 @@ use Rattle.ending.specs.declared.answer.Answer.{Answer}
 use Rattle.ending.specs.declared.answer.Answer.the-variants.{Done, TooBig}
 use Rattle.ending.specs.EndingLaws.{ended-too-big-only}
 use Rattle.addition.specs.Addition.{storedShort, shortSum, shortOfWhole, endedWhole, endedSum, larger, wholeSum, alignedSum, fullRoute, shortRoute, sumOf, differenceOf}
+use Rattle.addition.specs.AdditionLaws.{carried-255}
 use Rattle.addition.specs.ShortRouteLaws.{first-full, second-full}
 
 -- "If the sum is 2^32 or more, or -2^32 or less, [..] e rises by one (256 is report 6)." Such an e is a full number's, so the two take the full route.
 pub record SumTooBig (x y : Number) : Type 0 where
   pub exponent : larger (restacked x) (restacked y) ≡ 255
   pub carries : 2 ^ 32 ≤ natAbs (wholeSum (restacked x) (restacked y))
-
-carried-so : (z : ℤ) (e : ℕ) → e ≡ 255 → 2 ^ 32 ≤ natAbs z → endedSum z e ≡ TooBig
-unfolding endedSum
-carried-so z e h c = simp (le-leb _ _ c, eq-eqb (e + 1) 256 (omega arith))
 
 -- no other way out is report 6
 carried-only : (z : ℤ) (e : ℕ) → e ≤ 255 → endedSum z e ≡ TooBig → (e ≡ 255) × (2 ^ 32 ≤ natAbs z)
@@ -58,7 +55,7 @@ sum-too-big x y bx by = (
     only false b c n f e = e
 
     so : SumTooBig x y → sumOf x y ≡ TooBig
-    so t = route (eq-zero-or-pos (x .b1)) (eq-zero-or-pos (y .b1)) ∙ carried-so _ _ (t .exponent) (t .carries)
+    so t = route (eq-zero-or-pos (x .b1)) (eq-zero-or-pos (y .b1)) ∙ carried-255 _ _ (t .carries) (t .exponent)
       where
         route : (x .b1 ≡ 0) ⊎ (0 < x .b1) → (y .b1 ≡ 0) ⊎ (0 < y .b1) → sumOf x y ≡ fullRoute x y
         route (inr p) q = first-full x y (omega arith)

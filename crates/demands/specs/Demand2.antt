@@ -35,7 +35,7 @@ literals = (refl, refl, refl, refl, refl, refl, refl, refl, refl, refl)
 
 module _ (s : List ℕ) (d l : ℕ) (ok : reportOf s d l ≡ 0) where
   -- what is known of an accepted literal: the numbers that it takes stand within the stack
-  stands : (o : Operation) → operationOf l ≡ o → (takesOf o ≤ d) × (5 * d ≤ length s)
+  pub stands : (o : Operation) → operationOf l ≡ o → (takesOf o ≤ d) × (5 * d ≤ length s)
   stands o e = let w = within s d l (accepted s d l .0 ok .0) in let t = takes-are l ∙ ap takesOf e in (omega arith, w .1)
 
   left : operateOf s d l .1 ≡ bytesAfter (operationOf l) s d

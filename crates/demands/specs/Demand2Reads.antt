@@ -39,7 +39,7 @@ choice : {A : Type 0} (R : A → A → Type 0) (b : Bool) {x x′ y y′ : A} �
 choice R true h k = h refl
 choice R false h k = k refl
 
-neither : (b c : Bool) → b || c ≡ false → (b ≡ false) × (c ≡ false)
+pub neither : (b c : Bool) → b || c ≡ false → (b ≡ false) × (c ≡ false)
 neither true c e = absurd (let z : _≡_ {A = ℕ} 0 1 = cc in omega arith)
 neither false c e = (refl, e)
 

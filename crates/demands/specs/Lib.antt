@@ -9,5 +9,6 @@ pub mod Demand2
 pub mod Demand2Reads
 pub mod Demand2Run
 pub mod Demand3
+pub mod Report1
 pub mod Report6
 pub mod Sums

@@ -1,4 +1,5 @@
--- The starred rows of document 01's sums, together, and its worked run: each is an operation on a stack of its own.
+-- Document 01's sums, by computation: the starred rows, together, the other rows with the edges of the rules, and the worked run. Each row is an
+-- operation on a stack of its own.
 use Prim.Native.Nat.{ℕ}
 use mathlib.Core.Path.{_≡_, refl}
 use mathlib.Core.List.{List, [], _∷_, _++_, map}
@@ -44,7 +45,11 @@ refuses l x y r =
 abbrev turns : ℕ → Number → Number → Case
 turns l x z = record { stack = bytesOf x; depth = 1; literal = l; leaves = (record { report = 0; depth = 1 }, bytesOf z) }
 
--- 5 divides, 15 adds, 39 is int, 58 truncates.
+-- each literal leaves what the row says
+abbrev pub Hold : List Case → Type 0
+Hold cs = map (λ (c : Case). operateOf (c .stack) (c .depth) (c .literal)) cs ≡ map (λ (c : Case). c .leaves) cs
+
+-- 5 divides, 15 adds, 27 negates, 39 is int, 58 truncates, 61 re-stacks.
 abbrev pub starred : List Case
 starred =
     gives 5 (bytes 0x81 0 0 0 0) (bytes 0x84 0x20 0 0 0) (bytes 0x7D 0x4C 0xCC 0xCC 0xCC)
@@ -61,21 +66,69 @@ starred =
     ∷ turns 39 (bytes 0x90 0xFF 0xFF 0x80 0) (bytes 0 0xFF 0 0 0)
     ∷ []
 
-pub starred-hold : map (λ (c : Case). operateOf (c .stack) (c .depth) (c .literal)) starred ≡ map (λ (c : Case). c .leaves) starred
-unfolding
-    operateOf settled reportOf bytesAfter stored putSlot bytesOf numberIn overLimits notInTable noRoom noRoomFor malformed
-    malformedOperand isTooBig tooBig operationOf takes leaves rowOf quotientOf restackedQuotient fullQuotient tried rounds normal closed ended
-    restacked fullOfShort formOf leadingZeros sumOf shortRoute fullRoute alignedSum endedSum aligned shortValue truncated truncatedFull taken65536
-    intOf differenceOf negated passesZeroTest
-starred-hold = refl
+-- document 01's rows without a star
+abbrev pub unstarred : List Case
+unstarred =
+    gives 5 (bytes 0x82 0 0 0 0) (bytes 0x82 0x40 0 0 0) (bytes 0x80 0x2A 0xAA 0xAA 0xAA)
+    ∷ gives 5 (bytes 0x01 0 0 0 0) (bytes 0x83 0 0 0 0) zeros
+    ∷ refuses 5 zeros (bytes 0 0xFF 0 0 0) 6
+    ∷ gives 15 (bytes 0x81 0 0 0 0) (bytes 0x61 0x80 0 0 0) (bytes 0x81 0 0 0 0)
+    ∷ turns 39 (bytes 0x91 0x80 0 0 0) (bytes 0x81 0x80 0 0 0)
+    ∷ []
+
+-- Edges of the rules: a carry at exponent byte 255, shifts by 32 and by 33 places; the exponent bytes 128, 129, 144, 145, 159 and 160 of a
+-- truncation; the forms under re-stacking and negation.
+abbrev pub edges : List Case
+edges =
+    refuses 15 (bytes 0xFF 0x7F 0xFF 0xFF 0xFF) (bytes 0xFF 0x7F 0xFF 0xFF 0xFF) 6
+    ∷ gives 15 (bytes 0x81 0 0 0 0) (bytes 0x61 0 0 0 0) (bytes 0x81 0 0 0 0x01)
+    ∷ gives 15 (bytes 0x81 0 0 0 0) (bytes 0x60 0x7F 0xFF 0xFF 0xFF) (bytes 0x81 0 0 0 0)
+    ∷ turns 58 (bytes 0x80 0x7F 0xFF 0xFF 0xFF) zeros
+    ∷ turns 58 (bytes 0x81 0x80 0 0 0x01) (bytes 0 0xFF 0xFF 0xFF 0)
+    ∷ turns 58 (bytes 0x90 0x7F 0xFF 0xFF 0xFF) (bytes 0 0 0xFF 0xFF 0)
+    ∷ turns 58 (bytes 0x90 0xFF 0xFF 0x80 0) (bytes 0 0xFF 0x01 0 0)
+    ∷ turns 58 (bytes 0x91 0x80 0 0x7F 0xFF) (bytes 0 0xFF 0 0 0)
+    ∷ turns 58 (bytes 0x91 0 0 0x7F 0xFF) (bytes 0x91 0 0 0 0)
+    ∷ turns 58 (bytes 0x9F 0 0 0 0x03) (bytes 0x9F 0 0 0 0x02)
+    ∷ turns 58 (bytes 0xA0 0 0 0 0x03) (bytes 0xA0 0 0 0 0x03)
+    ∷ turns 58 (bytes 0 0xFF 0 0 0x07) (bytes 0 0xFF 0 0 0x07)
+    ∷ turns 61 (bytes 0 0 0x06 0 0x09) (bytes 0x83 0x40 0 0 0)
+    ∷ turns 61 (bytes 0 0xFF 0xFF 0xFF 0) (bytes 0x81 0x80 0 0 0)
+    ∷ turns 61 (bytes 0 0 0xFF 0xFF 0) (bytes 0x90 0x7F 0xFF 0 0)
+    ∷ turns 61 (bytes 0 0xFF 0x01 0 0) (bytes 0x90 0xFF 0xFF 0 0)
+    ∷ turns 61 (bytes 0 0 0 0 0x05) zeros
+    ∷ turns 61 (bytes 0 0xFF 0 0 0x05) zeros
+    ∷ turns 27 (bytes 0 0 0 0 0x05) (bytes 0 0 0 0 0x05)
+    ∷ turns 27 (bytes 0x81 0 0 0 0x01) (bytes 0x81 0x80 0 0 0x01)
+    ∷ turns 27 (bytes 0x81 0x80 0 0 0x01) (bytes 0x81 0 0 0 0x01)
+    ∷ turns 27 (bytes 0 0xFF 0 0 0x05) zeros
+    ∷ turns 27 (bytes 0 0 0x01 0 0x05) (bytes 0 0xFF 0xFF 0xFF 0)
+    ∷ turns 27 (bytes 0 0xFF 0x01 0 0x05) (bytes 0 0 0xFF 0xFF 0)
+    ∷ []
 
 -- "A run whole: bench of 10 bytes holding 00 00 06 00 00 00 00 02 00 00, depth 2, literals 5, 49, 49. [..] Answer: report 4, position 2, depth 2,
 -- bench 82 40 00 00 00 twice."
-pub worked-run :
+abbrev pub WorkedRun : Type 0
+WorkedRun =
     runOf (0 ∷ 0 ∷ 6 ∷ 0 ∷ 0 ∷ 0 ∷ 0 ∷ 2 ∷ 0 ∷ 0 ∷ []) 2 (5 ∷ 49 ∷ 49 ∷ [])
     ≡ (record { report = 4; position = 2; depth = 2 }, 0x82 ∷ 0x40 ∷ 0 ∷ 0 ∷ 0 ∷ 0x82 ∷ 0x40 ∷ 0 ∷ 0 ∷ 0 ∷ [])
+
+computed : Hold starred × Hold unstarred × Hold edges × WorkedRun
 unfolding
     runOf goOn operateOf settled reportOf bytesAfter stored slot putSlot bytesOf numberIn overLimits tooManyLiterals notInTable noRoom noRoomFor
-    malformed malformedOperand isTooBig tooBig operationOf takes leaves rowOf quotientOf restackedQuotient fullQuotient tried rounds
-    normal closed ended restacked fullOfShort formOf leadingZeros
-worked-run = refl
+    malformed malformedOperand isTooBig tooBig operationOf takes leaves rowOf quotientOf restackedQuotient fullQuotient tried rounds normal closed ended
+    restacked fullOfShort formOf leadingZeros sumOf shortRoute fullRoute alignedSum endedSum aligned shortValue truncated truncatedFull taken65536
+    intOf differenceOf negated passesZeroTest
+computed = (refl, refl, refl, refl)
+
+pub starred-hold : Hold starred
+starred-hold = computed .0
+
+pub unstarred-hold : Hold unstarred
+unstarred-hold = computed .1
+
+pub edges-hold : Hold edges
+edges-hold = computed .2
+
+pub worked-run : WorkedRun
+worked-run = computed .3

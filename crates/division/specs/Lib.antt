@@ -5,4 +5,3 @@ pub mod Operand
 pub mod DivisionLaws
 pub mod Demand3
 pub mod Demand3Laws
-pub mod Sums

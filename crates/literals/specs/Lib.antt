@@ -1,5 +1,4 @@
 pub mod Literals
-pub mod TableLaws
 pub mod Reports
 pub mod ReportLaws
 pub mod Operate

@@ -1,15 +1,15 @@
 -- A law for each case of `formOf`, by the word.
-use Prim.Native.Nat.{_^_, _/_, _*_, _+_, _≤_, _<_}
+use Prim.Native.Nat.{_^_, _*_, _+_, _≤_, _<_}
 use mathlib.Core.Path.{_≡_, refl, ap, subst}
 use mathlib.Core.Logic.{_⊎_, inl, inr}
 use mathlib.Core.Bool.{Bool, true, false, cond}
 use native.Mathlib.Omega.{arith}
-use borrow.Author.Tests.{lt-ltb, le-ltb, eq-eqb, ne-eqb, ltb-true, ltb-false, eqb-true}
+use borrow.Author.Tests.{lt-ltb, le-ltb, eq-eqb, ne-eqb, ltb-true, ltb-false, eqb-true, eqb-false}
 use lib.Dec.{ltb, eqb}
 use Rattle.number.specs.declared.Number.{Number}
 use Rattle.number.specs.declared.form.Form.{Form}
 use Rattle.number.specs.declared.form.Form.the-variants.{Full, Short, Odd, Malformed}
-use Rattle.number.specs.Number.{b2, b3, b4, low, formOf, isMalformed, malformed}
+use Rattle.number.specs.Number.{b2, b3, b4, sign, low, shortMagnitude, formOf, isMalformed, malformed}
 
 module _ (x : Number) where
   pub form-full : (x .b1 ≡ 0 → ⊥) → formOf x ≡ Full
@@ -73,7 +73,7 @@ module _ (x : Number) where
 -- What the form says of the bytes, where a law asks for it.
 abbrev pub FormBytes : Number → Form → Type 0
 FormBytes x Full = 0 < x .b1
-FormBytes x Short = (x .b1 ≡ 0) × ((b2 x ≡ 0) ⊎ (b2 x ≡ 255))
+FormBytes x Short = (x .b1 ≡ 0) × ((b2 x ≡ 0) ⊎ ((b2 x ≡ 255) × (0 < low x)))
 FormBytes x Odd = (x .b1 ≡ 0) × (b2 x ≡ 255) × (low x ≡ 0)
 FormBytes x Malformed = x .b1 ≡ 0
 
@@ -86,9 +86,13 @@ form-says x = go (ltb 0 (x .b1)) (eqb (b2 x) 0) (eqb (b2 x) 255) (eqb (b3 x) 0) 
     go true s n o p a b c d e = ltb-true _ _ a
     go false true n o p a b c d e = (omega (arith, ltb-false), inl (eqb-true _ _ b))
     go false false true true true a b c d e = (omega (arith, ltb-false), eqb-true _ _ c, omega (arith, eqb-true (b3 x) 0 d, eqb-true (b4 x) 0 e))
-    go false false true true false a b c d e = (omega (arith, ltb-false), inr (eqb-true _ _ c))
-    go false false true false p a b c d e = (omega (arith, ltb-false), inr (eqb-true _ _ c))
+    go false false true true false a b c d e = (omega (arith, ltb-false), inr (eqb-true _ _ c, omega (arith, eqb-false (b4 x) 0 e)))
+    go false false true false p a b c d e = (omega (arith, ltb-false), inr (eqb-true _ _ c, omega (arith, eqb-false (b3 x) 0 d)))
     go false false false o p a b c d e = omega (arith, ltb-false)
 
 pub form-bytes : (x : Number) (f : Form) → formOf x ≡ f → FormBytes x f
 form-bytes x f h = subst (FormBytes x) h (form-says x)
+
+-- of odd, two's complement gives the magnitude 0
+pub odd-none : (x : Number) → formOf x ≡ Odd → (0 < sign x) × (shortMagnitude x ≡ 0)
+odd-none x h = let f = form-bytes x Odd h in (omega arith, simp (ne-eqb (sign x) 0 (omega arith)) (omega arith))

@@ -9,4 +9,3 @@ pub mod RestackValue
 pub mod Unpack
 pub mod Negate
 pub mod NegateLaws
-pub mod Sums

@@ -1,17 +1,16 @@
 -- A law for each case of negation.
 use Prim.Native.Nat.{_-_, _≤_, _<_}
-use mathlib.Core.Path.{_≡_, refl, sym, _∙_, ap}
+use mathlib.Core.Path.{_≡_, refl, sym, _∙_, ap, ap₂}
 use mathlib.Core.Logic.{inr}
 use mathlib.Core.Bool.{Bool, true, false, cond}
 use native.Mathlib.Omega.{arith}
-use borrow.Author.Tests.{ne-eqb}
 use lib.IntN.{negℤ}
 use Rattle.number.specs.declared.Number.{Number}
 use Rattle.number.specs.declared.form.Form.{Form}
 use Rattle.number.specs.declared.form.Form.the-variants.{Full, Short, Odd, Malformed}
-use Rattle.number.specs.Number.{formOf, b2, low, sign, shortMagnitude, shortOf, zeros, passesZeroTest}
+use Rattle.number.specs.Number.{formOf, sign, shortMagnitude, shortOf, passesZeroTest}
 use Rattle.number.specs.NumberLaws.{Bytes, magnitude-lt, zero-passes, full-fails, some-fails}
-use Rattle.number.specs.FormLaws.{form-full, form-bytes}
+use Rattle.number.specs.FormLaws.{form-full, form-bytes, odd-none}
 use Rattle.number.specs.Value.{shortValue}
 use Rattle.number.specs.ValueLaws.{short-value, short-of-value, signed-other}
 use Rattle.number.specs.Negate.{negatedAs, negated}
@@ -29,7 +28,6 @@ module _ (x : Number) where
     unfolding negated
     negate-zero g = simp (zero-passes x h g)
 
-    -- of odd, two's complement gives the magnitude 0
     pub negate-short : 256 ≤ x .word → negated x ≡ shortOf (1 - sign x) (shortMagnitude x)
     negate-short g = go (formOf x) refl
       where
@@ -40,10 +38,8 @@ module _ (x : Number) where
         go Full e = absurd (omega (arith, form-bytes x Full e))
         go Short e = negate-as z Short e
         go Odd e =
-            let f = form-bytes x Odd e in
-            let one : 1 - sign x ≡ 0 = omega arith in
-            let none : shortMagnitude x ≡ 0 = simp (ne-eqb (sign x) 0 (omega arith)) (omega arith) in
-            negate-as z Odd e ∙ sym (ap (λ s. shortOf s (shortMagnitude x)) one ∙ ap (shortOf 0) none)
+            let o = odd-none x e in
+            negate-as z Odd e ∙ sym (ap₂ shortOf {x = 1 - sign x} {y = 0} (omega arith) (o .1))
         go Malformed e = negate-as z Malformed e
 
 -- its exponent byte is no larger

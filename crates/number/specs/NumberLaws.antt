@@ -2,13 +2,13 @@
 use Prim.Native.Nat.{ℕ, _+_, _*_, _^_, _/_, _%_, _≤_, _<_}
 use mathlib.Core.Path.{_≡_, refl, sym, _∙_, ap, ap₂}
 use mathlib.Core.Logic.{_⊎_, inl, inr}
-use mathlib.Core.Bool.{Bool, true, false, cond, _&&_}
+use mathlib.Core.Bool.{Bool, true, false, cond, _&&_, and-eq-true-iff}
 use native.Mathlib.Nat.{div-div-eq-div-mul}
 use native.Mathlib.Omega.{arith}
 use borrow.Author.Tests.{eqb-true, eqb-false, eq-eqb, ne-eqb}
 use lib.Dec.{eqb}
 use Rattle.number.specs.declared.Number.{Number}
-use Rattle.number.specs.Number.{b2, b3, b4, wordOf, swappedOf, sign, mantissa, fullOf, low, complementOf, shortMagnitude, halves, shortOf, passesZeroTest}
+use Rattle.number.specs.Number.{b2, b3, b4, wordOf, swappedOf, sign, mantissa, fullOf, low, complementOf, shortMagnitude, halves, passesZeroTest}
 
 pub record Bytes (x : Number) : Type 0 where
   pub b1< : x .b1 < 256
@@ -70,6 +70,10 @@ magnitude-lt x = go (eqb (sign x) 0)
     go true = omega arith
     go false = omega arith
 
+pub not-true : (b : Bool) → ¬ (b ≡ true) → b ≡ false
+not-true true h = absurd (h refl)
+not-true false h = refl
+
 -- the zero test, by the word
 module _ (x : Number) where
   pub zero-passes : x .b1 ≡ 0 → x .word < 256 → passesZeroTest x ≡ true
@@ -82,13 +86,9 @@ module _ (x : Number) where
 
   pub some-fails : x .b1 ≡ 0 → 256 ≤ x .word → passesZeroTest x ≡ false
   unfolding passesZeroTest
-  some-fails h g = simp (eq-eqb (x .b1) 0 h) (go (eqb (b2 x) 0) (eqb (b3 x) 0) refl refl)
-    where
-      go : (p q : Bool) → eqb (b2 x) 0 ≡ p → eqb (b3 x) 0 ≡ q → p && (q && eqb (b4 x) 0) ≡ false
-      go true true e f =
-          let p = places (x .word) in
-          let two : x .word / 2 ^ 16 ≡ 0 = omega (arith, p .1, eqb-true (b2 x) 0 e, eqb-true (b3 x) 0 f) in
-          let less : x .word / 2 ^ 8 < 256 = omega (arith, p .0) in
-          ne-eqb (b4 x) 0 (omega arith)
-      go true false e f = refl
-      go false q e f = refl
+  some-fails h g = not-true _ (λ z.
+      let q = and-eq-true-iff (eqb (b2 x) 0) (eqb (b3 x) 0 && eqb (b4 x) 0) .0 (and-eq-true-iff (eqb (x .b1) 0) _ .0 z .1) in
+      let r = and-eq-true-iff (eqb (b3 x) 0) (eqb (b4 x) 0) .0 (q .1) in
+      let p = places (x .word) in
+      let two : x .word / 2 ^ 16 ≡ 0 = omega (arith, p .1, eqb-true (b2 x) 0 (q .0), eqb-true (b3 x) 0 (r .0)) in
+      omega (arith, p .0, eqb-true (b4 x) 0 (r .1)))

@@ -1,14 +1,12 @@
 -- A law for each case of re-stacking.
-use Prim.Native.Nat.{_<_}
 use mathlib.Core.Path.{_≡_, refl, sym, _∙_, ap}
-use mathlib.Core.Logic.{_⊎_, inl, inr}
 use native.Mathlib.Omega.{arith}
 use borrow.Author.Tests.{eq-eqb, ne-eqb}
 use Rattle.number.specs.declared.Number.{Number}
 use Rattle.number.specs.declared.form.Form.{Form}
 use Rattle.number.specs.declared.form.Form.the-variants.{Full, Short, Odd, Malformed}
-use Rattle.number.specs.Number.{zeros, b2, sign, low, complementOf, shortMagnitude, formOf}
-use Rattle.number.specs.FormLaws.{form-full, form-bytes}
+use Rattle.number.specs.Number.{zeros, sign, shortMagnitude, formOf}
+use Rattle.number.specs.FormLaws.{form-full, form-bytes, odd-none}
 use Rattle.number.specs.Restack.{fullOfShort, shortRestacked, restackedAs, restacked}
 
 module _ (x : Number) where
@@ -19,17 +17,13 @@ module _ (x : Number) where
   pub restack-full : (x .b1 ≡ 0 → ⊥) → restacked x ≡ x
   restack-full h = restack-as Full (form-full x h)
 
-  -- of odd, two's complement gives the magnitude 0
-  odd-none : formOf x ≡ Odd → shortMagnitude x ≡ 0
-  odd-none h = let f = form-bytes x Odd h in simp (ne-eqb (sign x) 0 (omega arith)) (omega arith)
-
   short-restacked : x .b1 ≡ 0 → restacked x ≡ shortRestacked x
   short-restacked h = go (formOf x) refl
     where
       go : (f : Form) → formOf x ≡ f → restacked x ≡ shortRestacked x
       go Full e = absurd (omega (arith, form-bytes x Full e))
       go Short e = restack-as Short e
-      go Odd e = restack-as Odd e ∙ sym (simp (eq-eqb _ _ (odd-none e)))
+      go Odd e = restack-as Odd e ∙ sym (simp (eq-eqb _ _ (odd-none x e .1)))
       go Malformed e = restack-as Malformed e
 
   pub restack-some : x .b1 ≡ 0 → (shortMagnitude x ≡ 0 → ⊥) → restacked x ≡ fullOfShort (sign x) (shortMagnitude x)

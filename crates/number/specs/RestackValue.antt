@@ -19,7 +19,6 @@ use Rattle.number.specs.RestackLaws.{restack-full, restack-some, restack
 pub record Stands (s v : ℕ) (y : Number) : Type 0 where
   pub signs : sign y ≡ s
   pub low-exponent : 129 ≤ y .b1
-  pub high-exponent : y .b1 ≤ 144
   pub worth : mantissa y * 2 ^ y .b1 ≡ v * 2 ^ 160
   pub exact : mantissa y ≡ v * 2 ^ leadingZeros 32 v
 
@@ -40,7 +39,6 @@ full-of-short s v hs h g =
     record {
       signs = sign-full s (160 - z) m hs;
       low-exponent = omega (arith, t .1);
-      high-exponent = omega (arith, t .1);
       exact = same;
       worth =
           ap (λ (k : ℕ). k * 2 ^ (160 - z)) same
@@ -60,45 +58,28 @@ restack-value x b h n =
     ∙ ap (signed (sign x)) (y .worth)
     ∙ sym (ap (λ (k : ℤ). k *ℤ pos (2 ^ 160)) (short-value x b (inr some)) ∙ signed-times (sign x) v (2 ^ 160))
 
--- What a re-stacked number is: itself, zero, or the full number that stands for a short one.
-pub data Restacked (x : Number) : Number → Type 0 where
-  itself : (x .b1 ≡ 0 → ⊥) → Restacked x x
-  nothing : x .b1 ≡ 0 → shortMagnitude x ≡ 0 → Restacked x zeros
-  worth : x .b1 ≡ 0 → 0 < shortMagnitude x → Restacked x (fullOfShort (sign x) (shortMagnitude x))
-
-pub restacked-is : (x : Number) → Restacked x (restacked x)
-restacked-is x = go (eq-zero-or-pos (x .b1)) (eq-zero-or-pos (shortMagnitude x))
+-- What a re-stacked number is: itself, zero, or the full number that stands for a short one. So what holds of these holds of it.
+by-cases : (P : Number → Type 0) (x : Number) → ((x .b1 ≡ 0 → ⊥) → P x) → P zeros
+    → (0 < shortMagnitude x → P (fullOfShort (sign x) (shortMagnitude x))) → P (restacked x)
+by-cases P x full none some = go (eq-zero-or-pos (x .b1)) (eq-zero-or-pos (shortMagnitude x))
   where
-    go : (x .b1 ≡ 0) ⊎ (0 < x .b1) → (shortMagnitude x ≡ 0) ⊎ (0 < shortMagnitude x) → Restacked x (restacked x)
-    go (inr p) q = subst⁻¹ (Restacked x) (restack-full x (omega arith)) (itself (omega arith))
-    go (inl p) (inl q) = subst⁻¹ (Restacked x) (restack-zero x p q) (nothing p q)
-    go (inl p) (inr q) = subst⁻¹ (Restacked x) (restack-some x p (omega arith)) (worth p q)
+    go : (x .b1 ≡ 0) ⊎ (0 < x .b1) → (shortMagnitude x ≡ 0) ⊎ (0 < shortMagnitude x) → P (restacked x)
+    go (inr p) q = subst⁻¹ P (restack-full x (omega arith)) (full (omega arith))
+    go (inl p) (inl q) = subst⁻¹ P (restack-zero x p q) none
+    go (inl p) (inr q) = subst⁻¹ P (restack-some x p (omega arith)) (some q)
 
 -- A re-stacked number is made of bytes again.
 pub restacked-bytes : (x : Number) → Bytes x → Bytes (restacked x)
 unfolding fullOfShort
-restacked-bytes x b = go (restacked x) (restacked-is x)
-  where
-    go : (y : Number) → Restacked x y → Bytes y
-    go y (itself p) = b
-    go y (nothing p q) = omega arith
-    go y (worth p q) = omega arith
+restacked-bytes x b = by-cases Bytes x (λ p. b) (omega arith) (λ q. omega arith)
 
 -- a full number's exponent byte stays, a short number's becomes 160 at most
 pub restacked-exponent : (x : Number) (k : ℕ) → x .b1 ≤ k → 160 ≤ k → restacked x .b1 ≤ k
 unfolding fullOfShort
-restacked-exponent x k h l = go (restacked x) (restacked-is x)
-  where
-    go : (y : Number) → Restacked x y → y .b1 ≤ k
-    go y (itself p) = h
-    go y (nothing p q) = omega arith
-    go y (worth p q) = omega arith
+restacked-exponent x k h l = by-cases (λ (y : Number). y .b1 ≤ k) x (λ p. h) (omega arith) (λ q. omega arith)
 
 -- "Counts as zero" means re-stacked to five zero bytes: the exponent byte alone says so.
 pub restacked-zero : (x : Number) → Bytes x → restacked x .b1 ≡ 0 → restacked x ≡ zeros
-restacked-zero x b z = go (restacked x) (restacked-is x) z
-  where
-    go : (y : Number) → Restacked x y → y .b1 ≡ 0 → y ≡ zeros
-    go y (itself p) e = absurd (p e)
-    go y (nothing p q) e = refl
-    go y (worth p q) e = absurd (omega (arith, full-of-short (sign x) (shortMagnitude x) (omega arith) q (magnitude-lt x) .low-exponent))
+restacked-zero x b =
+    by-cases (λ (y : Number). y .b1 ≡ 0 → y ≡ zeros) x (λ p e. absurd (p e)) (λ e. refl)
+    (λ q e. absurd (omega (arith, full-of-short (sign x) (shortMagnitude x) (omega arith) q (magnitude-lt x) .low-exponent)))

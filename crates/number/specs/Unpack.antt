@@ -1,6 +1,6 @@
 -- A re-stacked number's parts: "a zero has mantissa 0 and exponent byte 0".
 use Prim.Native.Nat.{ℕ, _*_, _-_, _^_, _<_}
-use mathlib.Core.Path.{_≡_, sym, _∙_, ap}
+use mathlib.Core.Path.{_≡_, _∙_, ap}
 use mathlib.Core.Bool.{Bool, true, false, cond}
 use borrow.Author.Tests.{ne-eqb}
 use native.Mathlib.Omega.{arith}

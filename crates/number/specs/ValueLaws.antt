@@ -1,13 +1,13 @@
 -- Short values by sign and magnitude, and products with a sign.
-use Prim.Native.Nat.{ℕ, zero, suc, _+_, _*_, _-_, _^_, _/_, _%_, _<_}
+use Prim.Native.Nat.{ℕ, zero, suc, _+_, _*_, _-_, _^_, _<_}
 use mathlib.Core.Path.{_≡_, refl, sym, _∙_, ap, ap₂}
-use mathlib.Core.Logic.{_⊎_, inl, inr}
+use mathlib.Core.Logic.{_⊎_, inl, inr, ⊎-elim}
 use mathlib.Core.Bool.{cond}
 use borrow.Author.Tests.{lt-ltb, ne-eqb, eq-eqb}
 use native.Mathlib.Nat.{add-zero, zero-mul}
 use native.Mathlib.Omega.{arith}
 use lib.Dec.{eqb}
-use lib.IntN.{ℤ, pos, negsuc, negℤ, negℤ-negℤ, _-ℤ_, _*ℤ_}
+use lib.IntN.{pos, negsuc, negℤ, negℤ-negℤ, _-ℤ_, _*ℤ_}
 use Rattle.number.specs.declared.Number.{Number}
 use Rattle.number.specs.declared.form.Form.the-variants.{Short, Odd}
 use Rattle.number.specs.Number.{formOf, b2, b3, b4, sign, low, complementOf, shortMagnitude, halves, shortOf}
@@ -75,7 +75,7 @@ unfolding shortValue
 sign-byte x b f = ap (λ (n : ℕ). pos (256 * b4 x + b3 x) -ℤ pos n) (go (bytes-of f))
   where
     bytes-of : (formOf x ≡ Short) ⊎ (formOf x ≡ Odd) → (b2 x ≡ 0) ⊎ (b2 x ≡ 255)
-    bytes-of (inl h) = form-bytes x Short h .1
+    bytes-of (inl h) = ⊎-elim inl (λ p. inr (p .0)) (form-bytes x Short h .1)
     bytes-of (inr h) = inr (form-bytes x Odd h .1)
 
     go : (b2 x ≡ 0) ⊎ (b2 x ≡ 255) → 65536 * sign x ≡ cond (eqb (b2 x) 255) 65536 0

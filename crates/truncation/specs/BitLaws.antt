@@ -7,6 +7,10 @@ use lib.Count.{leadingZeros, leading-unique}
 use lib.Pow.{pow-add, pow-pos, pow-mono, shr-lt}
 use Rattle.truncation.specs.Truncate.{cleared}
 
+-- m times 2^n, by the places that n is made of
+pub split : (m n j k : ℕ) → n ≡ j + k → m * 2 ^ n ≡ m * 2 ^ j * 2 ^ k
+split m n j k h = ap (λ (i : ℕ). m * 2 ^ i) h ∙ ap (λ (i : ℕ). m * i) (pow-add 2 j k) ∙ sym (mul-assoc m (2 ^ j) (2 ^ k))
+
 -- clearing makes no number larger
 pub cleared-le : (m k : ℕ) → cleared k m ≤ m
 cleared-le m k = div-mul-le-self m (2 ^ k)
@@ -14,13 +18,11 @@ cleared-le m k = div-mul-le-self m (2 ^ k)
 -- up to 31 places are cleared below bit 31
 pub cleared-above : (q r k : ℕ) → k ≤ 31 → cleared k (r + q * 2 ^ 31) ≡ cleared k r + q * 2 ^ 31
 cleared-above q r k h =
-    let places : 31 ≡ 31 - k + k = omega arith in
-    let split : q * 2 ^ 31 ≡ q * 2 ^ (31 - k) * 2 ^ k =
-    ap (λ (n : ℕ). q * 2 ^ n) places ∙ ap (λ (n : ℕ). q * n) (pow-add 2 (31 - k) k) ∙ sym (mul-assoc q (2 ^ (31 - k)) (2 ^ k)) in
-    ap (λ (n : ℕ). cleared k (r + n)) split
+    let parts = split q 31 (31 - k) k (omega arith) in
+    ap (λ (n : ℕ). cleared k (r + n)) parts
     ∙ ap (λ (n : ℕ). n * 2 ^ k) (add-mul-div-right r (q * 2 ^ (31 - k)) (pow-pos k))
     ∙ add-mul (r / 2 ^ k) (q * 2 ^ (31 - k)) (2 ^ k)
-    ∙ ap (λ (n : ℕ). cleared k r + n) (sym split)
+    ∙ ap (λ (n : ℕ). cleared k r + n) (sym parts)
 
 -- a word with its lowest bits cleared keeps its sign, and its mantissa is cleared
 pub record Cleared (w k : ℕ) : Type 0 where

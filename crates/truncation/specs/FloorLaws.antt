@@ -1,14 +1,13 @@
 -- Int of a negative full number: what is left when the whole part is taken away is the difference of the mantissas.
 use Prim.Native.Nat.{ℕ, _+_, _*_, _-_, _^_, _/_, _%_, _≤_, _<_}
-use mathlib.Core.Path.{_≡_, refl, sym, _∙_, ap, ap₂}
+use mathlib.Core.Path.{_≡_, refl, _∙_, ap, ap₂}
 use mathlib.Core.Logic.{_⊎_, inl, inr}
 use mathlib.Core.Bool.{Bool, true, false, cond}
 use borrow.Author.Tests.{ne-eqb, eq-eqb}
 use native.Mathlib.Nat.{div-eq-of-lt, le-trans, le-of-eq}
 use native.Mathlib.Omega.{arith}
-use lib.Count.{leadingZeros}
 use lib.Dec.{ltb}
-use lib.IntN.{ℤ, _+ℤ_}
+use lib.IntN.{ℤ, pos, negℤ, _+ℤ_, +ℤ-comm}
 use lib.Pow.{pow-add, pow-pos}
 use Rattle.number.specs.declared.Number.{Number}
 use Rattle.number.specs.Number.{formOf, zeros, bytes, sign, mantissa, fullOf, low, complementOf, halves, shortOf, shortMagnitude, passesZeroTest}
@@ -17,24 +16,31 @@ use Rattle.number.specs.Value.{signed, shortValue}
 use Rattle.number.specs.Restack.{fullOfShort, restacked}
 use Rattle.number.specs.RestackLaws.{restack-full, restack-some}
 use Rattle.number.specs.Negate.{negated}
-use Rattle.number.specs.NegateLaws.{negate-full, negate-short}
+use Rattle.number.specs.NegateLaws.{negate-full}
 use Rattle.number.specs.Unpack.{magnitudeOf}
 use Rattle.ending.specs.declared.answer.Answer.the-variants.{Done}
-use Rattle.ending.specs.Ending.{loose, normal, rounded, closed, ended}
+use Rattle.ending.specs.Ending.{loose, normal, rounded, ended}
 use Rattle.ending.specs.EndingLaws.{normal-exponent, closed-stored, ended-zero, ended-other, ended-set}
-use Rattle.addition.specs.Addition.{aligned, endedSum, alignedSum, fullRoute, shortRoute, sumOf, differenceOf}
-use Rattle.addition.specs.SignedLaws.{first-larger}
+use Rattle.addition.specs.Addition.{endedSum, alignedSum, fullRoute, shortRoute, sumOf, differenceOf}
+use Rattle.addition.specs.SignedLaws.{below}
 use Rattle.addition.specs.AdditionLaws.{shiftedBy, unshifted, aligned-first, sum-ended}
 use Rattle.addition.specs.ShortRouteLaws.{first-full}
 use Rattle.truncation.specs.Truncate.{taken65536, cleared, truncated}
 use Rattle.truncation.specs.TruncateLaws.{truncate-full, truncate-below-one, truncate-to-short, truncate-taken, truncate-cleared, truncate-whole, taken-145, taken-not-145}
-use Rattle.truncation.specs.BitLaws.{cleared-le, Cleared, cleared-word, Dropped, dropped, dropped-lt}
+use Rattle.truncation.specs.BitLaws.{cleared-le, cleared-word, dropped, dropped-lt}
 use Rattle.truncation.specs.Int.{shortOne, intOf}
-use Rattle.truncation.specs.IntLaws.{int-whole, int-part, minusOne, less-one, odd-less-one}
+use Rattle.truncation.specs.IntLaws.{int-whole, int-part, minusOne, less-one, odd-less-one, positive, minus}
 
 -- what is added when t is subtracted on the full route
-abbrev opposite : Number → Number
+abbrev pub opposite : Number → Number
 opposite t = restacked (negated t)
+
+-- x less t on the full route, where z is t's opposite and has no larger an exponent byte
+pub full-less : (x t z : Number) → (x .b1 ≡ 0 → ⊥) → opposite t ≡ z → z .b1 ≤ x .b1 → sign x < 2 → sign z < 2
+    → differenceOf x t ≡ endedSum (signed (sign x) (mantissa x) +ℤ signed (sign z) (shiftedBy (sign z) (magnitudeOf z) (x .b1 - z .b1))) (x .b1)
+unfolding differenceOf fullRoute
+full-less x t z some o h g k =
+    first-full x (negated t) some ∙ ap₂ alignedSum (restack-full x some) o ∙ aligned-first x z h g k ∙ simp (ne-eqb (x .b1) 0 some)
 
 -- nothing moved is nothing
 none-moved : (k : ℕ) → shiftedBy 0 0 k ≡ 0
@@ -55,17 +61,9 @@ module _ (x : Number) (b : Bytes x) (s : sign x ≡ 1) (f : 0 < x .b1) where
   -- x less t, where t's opposite has the sign clear and comes to c at x's exponent
   left : (t z : Number) (c : ℕ) → opposite t ≡ z → z .b1 ≤ x .b1 → sign z ≡ 0
       → shiftedBy 0 (magnitudeOf z) (x .b1 - z .b1) ≡ c → c ≤ mantissa x → differenceOf x t ≡ ended 1 (mantissa x - c) (x .b1 + 256) 0
-  unfolding differenceOf fullRoute
   left t z c o h g k l =
-      let some : x .b1 ≡ 0 → ⊥ = omega arith in
-      let m : magnitudeOf x ≡ mantissa x = simp (ne-eqb (x .b1) 0 some) in
-      let moved : signed (sign z) (shiftedBy (sign z) (magnitudeOf z) (x .b1 - z .b1)) ≡ signed 0 c =
-      ap (λ (i : ℕ). signed i (shiftedBy i (magnitudeOf z) (x .b1 - z .b1))) g ∙ ap (signed 0) k in
-      first-full x (negated t) some
-      ∙ ap₂ alignedSum (restack-full x some) o
-      ∙ aligned-first x z h (omega arith) (omega arith)
-      ∙ ap₂ (λ (v w : ℤ). endedSum (v +ℤ w) (x .b1)) (ap₂ signed s m) moved
-      ∙ ap (λ (v : ℤ). endedSum v (x .b1)) (first-larger 1 0 (mantissa x) c (omega arith) (omega arith) (omega arith) l)
+      full-less x t z (omega arith) o h (omega arith) (omega arith)
+      ∙ rw (s, g, k) (ap (λ (v : ℤ). endedSum v (x .b1)) (+ℤ-comm (negℤ (pos (mantissa x))) (pos c) ∙ below c (mantissa x) l))
       ∙ sum-ended 1 (mantissa x - c) (x .b1) (omega arith) (omega arith)
 
   module _ (t : Number) (d : ℕ) (e : truncated x ≡ t) (h : differenceOf x t ≡ ended 1 d (x .b1 + 256) 0) where
@@ -145,25 +143,16 @@ module _ (x : Number) (b : Bytes x) (s : sign x ≡ 1) (f : 0 < x .b1) where
       (omega arith) (sign-full 0 (160 - k) (v * 2 ^ k) (omega arith))
       (mantissa-full 0 (160 - k) (v * 2 ^ k) (d .top) (omega (arith, cleared-le (mantissa x) k))) (omega arith)
     where
-      again : (v : ℕ) → 0 < v → v < 2 ^ 16 → complementOf (complementOf v) ≡ v
-      again v p q = omega arith
-
-      positive : (c : ℕ) → c < 2 ^ 16 → sign (halves 0 c) ≡ 0
-      positive c p = omega arith
-
       short-opposite : (v : ℕ) → 0 < v → v < 2 ^ 16 → opposite (halves 255 (complementOf v)) ≡ fullOfShort 0 v
       short-opposite v p q =
           let c = complementOf v in
-          let n = negative c (omega arith) in
           let y = halves 0 v in
-          let low-t : low (halves 255 c) ≡ c = low-halves 255 c (omega arith) in
-          let far : shortMagnitude (halves 255 c) ≡ v = simp (ne-eqb (sign (halves 255 c)) 0 (omega arith)) (ap complementOf low-t ∙ again v p q) in
-          let none : 1 - sign (halves 255 c) ≡ 0 = omega arith in
-          let sign-y : sign y ≡ 0 = positive v q in
-          let near : shortMagnitude y ≡ v = simp (eq-eqb (sign y) 0 sign-y) (low-halves 0 v q) in
-          ap restacked (negate-short (halves 255 c) refl (n .1) ∙ ap₂ shortOf none far)
+          let back : complementOf c ≡ v = omega arith in
+          let near : shortMagnitude y ≡ v = simp (eq-eqb (sign y) 0 (positive v q)) (low-halves 0 v q) in
+          let other : negated (halves 255 c) ≡ halves 0 (complementOf (low (halves 255 c))) = minus (halves 255 c) (omega arith) refl (negative c (omega arith) .0) in
+          ap restacked (rw (low-halves 255 c (omega arith), back) at other)
           ∙ restack-some y refl (omega arith)
-          ∙ ap₂ fullOfShort sign-y near
+          ∙ ap₂ fullOfShort (positive v q) near
 
   -- one more where a part was cut off
   pub short-up : 129 ≤ x .b1 → x .b1 < 145 → (cleared k (mantissa x) ≡ mantissa x → ⊥) → intOf x ≡ Done (halves 255 (65535 - mantissa x / 2 ^ k))
@@ -175,16 +164,9 @@ module _ (x : Number) (b : Bytes x) (s : sign x ≡ 1) (f : 0 < x .b1) where
       lower : (v : ℕ) → 0 < v → v < 2 ^ 16 → differenceOf (halves 255 (complementOf v)) shortOne ≡ Done (halves 255 (65535 - v))
       lower v p q =
           let c = complementOf v in
-          let l : low (halves 255 c) ≡ c = low-halves 255 c (omega arith) in
-          let one : sign (halves 255 c) ≡ 1 = negative c (omega arith) .0 in
-          less-one (halves 255 c) refl one (le-trans (some v p q) (le-of-eq (sym l)))
-          ∙ ap (λ (n : ℕ). Done (halves 255 n)) (ap (λ (n : ℕ). n - 1) l ∙ less v p q)
-        where
-          some : (v : ℕ) → 0 < v → v < 2 ^ 16 → 0 < complementOf v
-          some v p q = omega arith
-
-          less : (v : ℕ) → 0 < v → v < 2 ^ 16 → complementOf v - 1 ≡ 65535 - v
-          less v p q = omega arith
+          let less : c - 1 ≡ 65535 - v = omega arith in
+          (rw (low-halves 255 c (omega arith)) at (less-one (halves 255 c) refl (negative c (omega arith) .0))) (omega arith)
+          ∙ ap (λ (n : ℕ). Done (halves 255 n)) less
 
   pub cut-full : 145 ≤ x .b1 → x .b1 < 160 → taken65536 x ≡ false → Cut (record { b1 = x .b1; word = cleared k (x .word) })
   cut-full h g t =

@@ -73,26 +73,22 @@ module _ (t : Number) (h : t .b1 ≡ 0) (s : sign t ≡ 1) where
       let carry : carryOf (wrapped t other) (low t) ≡ 0 = ap (λ (l : ℕ). carryOf ((l + 65535) % 2 ^ 16) l) z in
       ap (sumOf t) one-negated
       ∙ sum-beyond t other h refl
-      (λ e. none-two (sym carry ∙ e ∙ two-negative))
-      (λ e. one-two (ap (λ (n : ℕ). n + 1) (sym carry) ∙ e ∙ two-negative))
+      (λ e. omega (arith, carry, two-negative)) (λ e. omega (arith, carry, two-negative))
       ∙ ap (λ (n : Number). alignedSum n (restacked other)) (restack-zero t h none)
-    where
-      none-two : _≡_ {A = ℕ} 0 2 → ⊥
-      none-two e = omega arith
-
-      one-two : _≡_ {A = ℕ} 1 2 → ⊥
-      one-two e = omega arith
 
 -- ---- short and odd, which truncation leaves as they are
 
 back : (l : ℕ) → 0 < l → l < 2 ^ 16 → (l + complementOf l) % 2 ^ 16 ≡ 0
 back l h g = omega arith
 
+pub positive : (c : ℕ) → c < 2 ^ 16 → sign (halves 0 c) ≡ 0
+positive c g = omega arith
+
 module _ (x : Number) (b : Bytes x) (h : x .b1 ≡ 0) (s : sign x ≡ 1) where
   abbrev opposite : Number
   opposite = halves 0 (complementOf (low x))
 
-  minus : negated x ≡ opposite
+  pub minus : negated x ≡ opposite
   minus =
       let same : shortMagnitude x ≡ complementOf (low x) = simp (ne-eqb (sign x) 0 (omega arith)) in
       let none : 1 - sign x ≡ 0 = omega arith in
@@ -102,10 +98,7 @@ module _ (x : Number) (b : Bytes x) (h : x .b1 ≡ 0) (s : sign x ≡ 1) where
   low-opposite = low-halves 0 (complementOf (low x)) (omega arith)
 
   one-negative : negatives x opposite ≡ 1
-  one-negative = let none : sign opposite ≡ 0 = positive (complementOf (low x)) (omega arith) in ap₂ _+_ s none
-    where
-      positive : (c : ℕ) → c < 2 ^ 16 → sign (halves 0 c) ≡ 0
-      positive c g = omega arith
+  one-negative = ap₂ _+_ s (positive (complementOf (low x)) (omega arith))
 
   -- x less x is zero
   pub int-short : 0 < low x → intOf x ≡ Done x

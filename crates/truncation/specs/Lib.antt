@@ -6,4 +6,3 @@ pub mod Int
 pub mod IntLaws
 pub mod FloorLaws
 pub mod StepLaws
-pub mod Sums

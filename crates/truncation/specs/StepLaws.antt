@@ -3,7 +3,7 @@ use Prim.Native.Nat.{ℕ, suc, _+_, _*_, _-_, _^_, _/_, _≤_, _<_}
 use mathlib.Core.Path.{_≡_, refl, sym, _∙_, ap, ap₂}
 use mathlib.Core.Logic.{_⊎_, inl, inr}
 use mathlib.Core.Bool.{Bool, true, false}
-use borrow.Author.Tests.{ne-eqb, le-ltb, ltb-true, ltb-false, eqb-true, eqb-false}
+use borrow.Author.Tests.{le-ltb, ltb-true, ltb-false, eqb-true, eqb-false}
 use lib.Dec.{ltb, eqb}
 use native.Mathlib.Nat.{eq-zero-or-pos, div-eq-of-lt, add-mul-div-right, le-trans, le-of-eq}
 use native.Mathlib.Omega.{arith}
@@ -11,31 +11,27 @@ use lib.Count.{leadingZeros}
 use lib.IntN.{ℤ, _+ℤ_}
 use lib.Pow.{pow-add, pow-pos, pow-mono}
 use Rattle.number.specs.declared.Number.{Number}
-use Rattle.number.specs.Number.{formOf, sign, low, mantissa, fullOf, halves, passesZeroTest}
+use Rattle.number.specs.Number.{formOf, sign, low, mantissa, fullOf, passesZeroTest}
 use Rattle.number.specs.NumberLaws.{Bytes}
 use Rattle.number.specs.Value.{signed}
 use Rattle.number.specs.Restack.{fullOfShort, restacked}
-use Rattle.number.specs.RestackLaws.{restack-full}
 use Rattle.number.specs.Negate.{negated}
-use Rattle.number.specs.Unpack.{magnitudeOf}
 use Rattle.ending.specs.declared.answer.Answer.the-variants.{Done}
-use Rattle.ending.specs.Ending.{loose, ended, closed}
+use Rattle.ending.specs.Ending.{loose}
 use Rattle.ending.specs.EndingLaws.{closed-stored, ended-set}
-use Rattle.addition.specs.Addition.{endedSum, alignedSum, fullRoute, differenceOf}
+use Rattle.addition.specs.Addition.{endedSum, differenceOf}
 use Rattle.addition.specs.SignedLaws.{same-sign}
-use Rattle.addition.specs.AdditionLaws.{shiftedBy, aligned-first, sum-ended, sum-stored}
-use Rattle.addition.specs.ShortRouteLaws.{first-full}
+use Rattle.addition.specs.AdditionLaws.{shiftedBy, sum-ended, sum-stored}
 use Rattle.truncation.specs.Truncate.{taken65536, cleared}
-use Rattle.truncation.specs.BitLaws.{cleared-le, Cleared, cleared-word}
+use Rattle.truncation.specs.BitLaws.{split, cleared-le, Cleared, cleared-word}
 use Rattle.truncation.specs.Int.{shortOne, intOf}
 use Rattle.truncation.specs.IntLaws.{int-positive, int-short, int-odd, minusOne}
-use Rattle.truncation.specs.FloorLaws.{Cut, cut-short, cut-full, short-up, int-small, int-taken, int-large}
+use Rattle.truncation.specs.FloorLaws.{full-less, Cut, cut-short, cut-full, short-up, int-small, int-taken, int-large}
 
 -- 2^31 moved down by j places; the half that is added is lost again
 one-moved : (j : ℕ) → j ≤ 31 → shiftedBy 1 (2 ^ 31) j ≡ 2 ^ (31 - j)
 one-moved j g =
-    let places : 32 ≡ 31 - j + (j + 1) = omega arith in
-    let split : 2 ^ 32 ≡ 2 ^ (31 - j) * 2 ^ (j + 1) = ap (λ (n : ℕ). 2 ^ n) places ∙ pow-add 2 (31 - j) (j + 1) in
+    let parts = split 1 32 (31 - j) (j + 1) (omega arith) in
     let all : 2 * 2 ^ 31 + 2 ^ j - 1 ≡ 2 ^ j - 1 + 2 ^ (31 - j) * 2 ^ (j + 1) = omega (arith, pow-pos j) in
     let none : (2 ^ j - 1) / 2 ^ (j + 1) ≡ 0 = div-eq-of-lt (omega (arith, pow-pos j, pow-add 2 j 1)) in
     simp (le-ltb 32 j (omega arith))
@@ -50,15 +46,10 @@ module _ (t : Number) (s : sign t ≡ 1) (h : 145 ≤ t .b1) (g : t .b1 < 160) w
   more = mantissa t + 2 ^ (160 - t .b1)
 
   sum : differenceOf t shortOne ≡ endedSum (signed 1 more) (t .b1)
-  unfolding differenceOf fullRoute
   sum =
-      let some : t .b1 ≡ 0 → ⊥ = omega arith in
-      let m : magnitudeOf t ≡ mantissa t = simp (ne-eqb (t .b1) 0 some) in
       let places : 31 - (t .b1 - 129) ≡ 160 - t .b1 = omega arith in
-      first-full t (negated shortOne) some
-      ∙ ap₂ alignedSum (restack-full t some) one-opposite
-      ∙ aligned-first t minusOne (omega arith) (omega arith) (omega arith)
-      ∙ ap₂ (λ (v w : ℤ). endedSum (v +ℤ w) (t .b1)) (ap₂ signed s m)
+      full-less t shortOne minusOne (omega arith) one-opposite (omega arith) (omega arith) (omega arith)
+      ∙ ap₂ (λ (v w : ℤ). endedSum (v +ℤ w) (t .b1)) (ap (λ (i : ℕ). signed i (mantissa t)) s)
       (ap (signed 1) (one-moved (t .b1 - 129) (omega arith) ∙ ap (λ (n : ℕ). 2 ^ n) places))
       ∙ ap (λ (z : ℤ). endedSum z (t .b1)) (same-sign 1 (mantissa t) (2 ^ (160 - t .b1)))
 

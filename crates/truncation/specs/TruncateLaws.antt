@@ -1,15 +1,15 @@
 -- A law for each case of truncation.
-use Prim.Native.Nat.{ℕ, _+_, _-_, _^_, _/_, _≤_, _<_}
+use Prim.Native.Nat.{_+_, _-_, _^_, _/_, _≤_, _<_}
 use mathlib.Core.Path.{_≡_, refl, ap}
-use mathlib.Core.Bool.{Bool, true, false, _&&_}
+use mathlib.Core.Bool.{true, false, and-eq-true-iff}
 use native.Mathlib.Omega.{arith}
-use borrow.Author.Tests.{lt-ltb, le-ltb, eq-eqb, ne-eqb, eqb-true, eqb-false, ltb-true}
-use lib.Dec.{eqb, ltb}
+use borrow.Author.Tests.{lt-ltb, le-ltb, eq-eqb, ne-eqb, eqb-true, ltb-true}
+use lib.Dec.{eqb}
 use Rattle.number.specs.declared.Number.{Number}
 use Rattle.number.specs.declared.form.Form.{Form}
 use Rattle.number.specs.declared.form.Form.the-variants.{Full, Short, Odd, Malformed}
 use Rattle.number.specs.FormLaws.{form-full, form-bytes}
-use Rattle.number.specs.NumberLaws.{places}
+use Rattle.number.specs.NumberLaws.{places, not-true}
 use Rattle.number.specs.Number.{b2, b3, b4, bytes, zeros, sign, mantissa, shortOf, formOf}
 use Rattle.truncation.specs.Truncate.{taken65536, cleared, truncatedFull, truncatedAs, truncated}
 
@@ -27,28 +27,18 @@ module _ (x : Number) where
 
   pub taken-not : (x .word / 2 ^ 15 ≡ 2 ^ 16 → ⊥) → taken65536 x ≡ false
   unfolding taken65536
-  taken-not h = go (eqb (x .b1) 145) (eqb (b2 x) 128) (eqb (b3 x) 0) (ltb (b4 x) 128) refl refl refl
-    where
-      go : (o p q r : Bool) → eqb (b2 x) 128 ≡ p → eqb (b3 x) 0 ≡ q → ltb (b4 x) 128 ≡ r → o && (p && (q && r)) ≡ false
-      go true true true true e f g =
-          let p = places (x .word) in
-          let two : x .word / 2 ^ 16 ≡ 32768 = omega (arith, p .1, eqb-true (b2 x) 128 e, eqb-true (b3 x) 0 f) in
-          let one : x .word / 2 ^ 8 < 8388608 + 128 = omega (arith, p .0, ltb-true (b4 x) 128 g) in
-          absurd (h (omega arith))
-      go true true true false e f g = refl
-      go true true false r e f g = refl
-      go true false q r e f g = refl
-      go false p q r e f g = refl
+  taken-not h = not-true _ (λ t.
+      let r = and-eq-true-iff (eqb (x .b1) 145) _ .0 t .1 in
+      let q = and-eq-true-iff (eqb (b2 x) 128) _ .0 r in
+      let s = and-eq-true-iff (eqb (b3 x) 0) _ .0 (q .1) in
+      let p = places (x .word) in
+      let two : x .word / 2 ^ 16 ≡ 32768 = omega (arith, p .1, eqb-true (b2 x) 128 (q .0), eqb-true (b3 x) 0 (s .0)) in
+      let one : x .word / 2 ^ 8 < 8388608 + 128 = omega (arith, p .0, ltb-true (b4 x) 128 (s .1)) in
+      h (omega arith))
 
   pub taken-145 : taken65536 x ≡ true → x .b1 ≡ 145
-  taken-145 t = go (eqb (x .b1) 145) refl
-    where
-      go : (p : Bool) → eqb (x .b1) 145 ≡ p → x .b1 ≡ 145
-      go true e = eqb-true _ _ e
-      go false e =
-          let no : taken65536 x ≡ false = taken-not-145 (eqb-false _ _ e) in
-          let z : _≡_ {A = ℕ} 0 1 = cc in
-          absurd (omega arith)
+  unfolding taken65536
+  taken-145 t = eqb-true _ _ (and-eq-true-iff _ _ .0 t .0)
 
 -- ---- truncation
 

@@ -3,11 +3,11 @@ use Prim.Native.Nat.{ℕ, _+_, _*_, _-_, _^_, _/_, _≤_, _<_}
 use mathlib.Core.Path.{_≡_, refl, sym, _∙_, ap, ap₂}
 use mathlib.Core.Bool.{Bool, true, false, cond}
 use borrow.Author.Tests.{lt-ltb, ltb-true, ltb-false}
-use native.Mathlib.Nat.{lt-of-lt-of-le, mul-assoc, mul-div-mul-right, div-eq-of-lt, mul-div-cancel}
+use native.Mathlib.Nat.{lt-of-lt-of-le, mul-div-mul-right, div-eq-of-lt, mul-div-cancel}
 use native.Mathlib.Omega.{arith}
 use lib.Dec.{ltb}
 use lib.IntN.{ℤ, pos, _*ℤ_}
-use lib.Pow.{pow-add, pow-pos, pow-mono, shl-lt}
+use lib.Pow.{pow-add, pow-pos, pow-mono}
 use Rattle.number.specs.declared.Number.{Number}
 use Rattle.number.specs.Number.{sign, mantissa, shortOf, zeros}
 use Rattle.number.specs.NumberLaws.{Bytes}
@@ -15,7 +15,7 @@ use Rattle.number.specs.Value.{signed, shortValue, fullValue}
 use Rattle.number.specs.ValueLaws.{signed-times, signed-zero, short-of-value}
 use Rattle.truncation.specs.Truncate.{taken65536, cleared, truncatedFull, truncated}
 use Rattle.truncation.specs.TruncateLaws.{truncate-full, truncate-below-one, truncate-to-short, truncate-cleared, truncate-whole}
-use Rattle.truncation.specs.BitLaws.{cleared-word, dropped, dropped-lt}
+use Rattle.truncation.specs.BitLaws.{split, cleared-word, dropped, dropped-lt}
 
 -- The value of a full or short number, times 2^160.
 unfoldable pub scaledValue : Number → ℤ
@@ -23,8 +23,7 @@ scaledValue x = cond (ltb 0 (x .b1)) (fullValue x) (shortValue x *ℤ pos (2 ^ 1
 
 -- m times 2^(e - 160), its part below one dropped, is m with k = 160 - e places dropped
 whole-part : (m k e : ℕ) → k + e ≡ 160 → m * 2 ^ e / 2 ^ 160 ≡ m / 2 ^ k
-whole-part m k e h =
-    ap (λ (n : ℕ). m * 2 ^ e / n) (ap (λ (n : ℕ). 2 ^ n) (sym h) ∙ pow-add 2 k e) ∙ mul-div-mul-right m (2 ^ k) (pow-pos e)
+whole-part m k e h = ap (λ (n : ℕ). m * 2 ^ e / n) (ap (λ (n : ℕ). 2 ^ n) (sym h) ∙ pow-add 2 k e) ∙ mul-div-mul-right m (2 ^ k) (pow-pos e)
 
 module _ (x : Number) (b : Bytes x) (f : 0 < x .b1) (t : taken65536 x ≡ false) where
   abbrev s : ℕ
@@ -42,8 +41,8 @@ module _ (x : Number) (b : Bytes x) (f : 0 < x .b1) (t : taken65536 x ≡ false)
   none : x .b1 < 129 → Whole zeros
   unfolding scaledValue shortValue
   none h =
-      let under : m * 2 ^ x .b1 < 2 ^ 160 = lt-of-lt-of-le (shl-lt {a = m} 32 (x .b1) (omega arith)) (pow-mono {i = 32 + x .b1} {j = 160} (omega arith)) in
-      sym (ap (λ (n : ℕ). signed s (n * 2 ^ 160)) (div-eq-of-lt under) ∙ signed-zero s)
+      let under : m < 2 ^ k = lt-of-lt-of-le {m = 2 ^ 32} (omega arith) (pow-mono {i = 32} {j = k} (omega arith)) in
+      sym (ap (λ (n : ℕ). signed s (n * 2 ^ 160)) (whole-part m k (x .b1) (omega arith) ∙ div-eq-of-lt under) ∙ signed-zero s)
 
   short : 129 ≤ x .b1 → x .b1 < 145 → Whole (shortOf s (m / 2 ^ k))
   unfolding scaledValue
@@ -62,19 +61,15 @@ module _ (x : Number) (b : Bytes x) (f : 0 < x .b1) (t : taken65536 x ≡ false)
       simp (lt-ltb 0 (x .b1) f)
       (ap₂ (λ (i n : ℕ). signed i (n * 2 ^ x .b1)) (c .sign) (c .mantissa)
       ∙ ap (signed s)
-      (mul-assoc (m / 2 ^ k) (2 ^ k) (2 ^ x .b1)
-      ∙ ap (λ (n : ℕ). m / 2 ^ k * n) (sym (pow-add 2 k (x .b1)) ∙ ap (λ (n : ℕ). 2 ^ n) places)
-      ∙ ap (λ (n : ℕ). n * 2 ^ 160) (sym (whole-part m k (x .b1) places))))
+      (sym (split (m / 2 ^ k) 160 k (x .b1) (sym places)) ∙ ap (λ (n : ℕ). n * 2 ^ 160) (sym (whole-part m k (x .b1) places))))
 
   unchanged : 160 ≤ x .b1 → Whole x
   unfolding scaledValue fullValue
   unchanged h =
       let n = m * 2 ^ (x .b1 - 160) in
-      let places : x .b1 ≡ x .b1 - 160 + 160 = omega arith in
-      let split : m * 2 ^ x .b1 ≡ n * 2 ^ 160 =
-      ap (λ (i : ℕ). m * 2 ^ i) places ∙ ap (λ (i : ℕ). m * i) (pow-add 2 (x .b1 - 160) 160) ∙ sym (mul-assoc m (2 ^ (x .b1 - 160)) (2 ^ 160)) in
+      let parts = split m (x .b1) (x .b1 - 160) 160 (omega arith) in
       simp (lt-ltb 0 (x .b1) f)
-      (ap (signed s) (split ∙ ap (λ (i : ℕ). i * 2 ^ 160) (sym (ap (λ (i : ℕ). i / 2 ^ 160) split ∙ mul-div-cancel n (pow-pos 160)))))
+      (ap (signed s) (parts ∙ ap (λ (i : ℕ). i * 2 ^ 160) (sym (ap (λ (i : ℕ). i / 2 ^ 160) parts ∙ mul-div-cancel n (pow-pos 160)))))
 
   -- The value of what truncation leaves is the magnitude's whole part, with the sign.
   pub truncate-value : Whole (truncated x)

@@ -1,16 +1,13 @@
 -- Document 01: "the top's value as a 64-bit double, which is always exact, zero being +0". No operation on floats stands in these definitions:
--- `round` is the double nearest to a fraction, and the law below says that nothing is rounded.
-use Prim.Native.Nat.{ℕ, _+_, _*_, _^_, _≤_, _<_}
-use mathlib.Core.Path.{_≡_, _∙_, ap, sym}
+-- `round` is the double nearest to a fraction; that nothing is rounded is said in Exact.
+use Prim.Native.Nat.{ℕ, _*_, _^_, _≤_, _<_}
+use mathlib.Core.Path.{_≡_, ap}
 use mathlib.Core.Bool.{Bool, false, cond}
-use native.Mathlib.Nat.{mul-assoc, lt-trans}
 use native.Mathlib.Omega.{arith}
 use borrow.Author.Tests.{eq-eqb, ne-eqb}
 use lib.IntN.{pos}
 use lib.Dec.{eqb}
-use lib.Pow.{pow-add, pow-pos, pow-lt, shl-lt}
 use lib.Ieee.{Float, fin, binary64, round}
-use lib.Ieee.Exact.{HasValue, round-exact}
 use Rattle.number.specs.declared.Number.{Number}
 use Rattle.number.specs.declared.unpacking.Unpacked.{Unpacked}
 use Rattle.number.specs.Number.{sign, mantissa}
@@ -49,14 +46,3 @@ module _ (x : Number) {a : Unpacked} (is : a ≡ unpackedOf x) where
     pub double-some : doubleOf x ≡ doubleOfFull (eqb (a .sign) 1) (a .m) (a .e)
     unfolding doubleOf unpackedOf
     double-some = rw is (simp some)
-
--- The double is exact: its sign is the number's, and its size is the fraction itself.
-pub double-exact : (s : Bool) (m e : ℕ) → m < 2 ^ 32 → e < 256 → HasValue (doubleOfFull s m e) s (m * 2 ^ e) (2 ^ 160)
-unfolding doubleOfFull
-double-exact s m e h g =
-    round-exact binary64 s (m * 2 ^ e) (2 ^ 160) m (e + 914) (pow-pos 160) (lt-trans h (pow-lt {i = 32} {j = 53} (omega arith)))
-    (lt-trans (shl-lt {a = m} 32 (e + 914) h) (pow-lt {i = 32 + (e + 914)} {j = 2098} (omega arith)))
-    (mul-assoc m (2 ^ e) (2 ^ 1074) ∙ ap (λ (p : ℕ). m * p) places ∙ sym (mul-assoc m (2 ^ (e + 914)) (2 ^ 160)))
-  where
-    places : 2 ^ e * 2 ^ 1074 ≡ 2 ^ (e + 914) * 2 ^ 160
-    places = sym (pow-add 2 e 1074) ∙ ap (λ (k : ℕ). 2 ^ k) (omega arith) ∙ pow-add 2 (e + 914) 160
