@@ -5,10 +5,10 @@ mod running;
 
 pub use display::Cell;
 pub use display::cell;
+pub use moving::push;
 pub use operation::operate;
 pub use operation::operate_in_place;
 pub use outcome::RunOutcome;
 pub use running::run;
 pub use slots::Outcome;
-pub use slots::push;
 pub use slots::view;

@@ -5,15 +5,17 @@ use mathlib.Core.Bool.{Bool, true, false, cond}
 use mathlib.Core.List.{List}
 use native.Mathlib.Omega.{arith}
 use lib.Dec.{ltb}
-use lib.ListN.{length}
+use lib.ListN.{length, getD}
 use borrow.Author.Tests.{lt-ltb, le-ltb, eq-eqb, ne-eqb}
+use Rattle.number.specs.declared.Number.{Number}
 use Rattle.number.specs.Number.{malformed}
 use Rattle.slots.specs.declared.outcome.Outcome.{Outcome}
-use Rattle.slots.specs.Slots.{numberIn, putSlot}
+use Rattle.slots.specs.Slots.{numberIn, bytesOf, putSlot}
+use Rattle.slots.specs.SlotLaws.{bytes-of-slot, slot-five, five-of}
 use Rattle.slots.specs.Reports.{overLimits, noRoom, notANumber, pushReport}
 use Rattle.slots.specs.LimitLaws.{within, within-of}
-use Rattle.slots.specs.Reach.{lacking, refusalOf, numberAt}
-use Rattle.slots.specs.ReachLaws.{has, enough, number-at}
+use Rattle.slots.specs.Reach.{lacking, refusalOf, numberAt, putAt}
+use Rattle.slots.specs.ReachLaws.{has, enough, number-at, put-there}
 use Rattle.slots.specs.Push.{settled, pushOf}
 
 -- whatever the report, a refusal leaves the stack and the depth
@@ -85,5 +87,16 @@ module _ (s : List ℕ) (d after : ℕ) (e : after ≡ (d + 1) % 2 ^ 64) where
       }
 
 -- the five bytes are the one number of a stack of their own
+one : (p : List ℕ) → length p ≡ 5 → numberAt p 1 0 ≡ numberIn p 0
+one p h = number-at p 1 0 (enough p 1 1 (record { short = omega arith; deep = omega arith }) (omega arith))
+
 pub alone : (p : List ℕ) → length p ≡ 5 → malformed (numberAt p 1 0) ≡ malformed (numberIn p 0)
-alone p h = ap malformed (number-at p 1 0 (enough p 1 1 (record { short = omega arith; deep = omega arith }) (omega arith)))
+alone p h = ap malformed (one p h)
+
+-- and put onto the stack as they are
+pub put-alone : (s : List ℕ) (d : ℕ) (p : List ℕ) → lacking s d 1 ≡ false → length p ≡ 5 → ((k : ℕ) → getD p k 0 < 256)
+    → putAt s d 0 (numberAt p 1 0) ≡ putSlot s (d - 1) p
+put-alone s d p a h b =
+    put-there s d 0 (numberAt p 1 0) a
+    ∙ ap (λ (n : Number). putSlot s (d - 1) (bytesOf n)) (one p h)
+    ∙ ap (putSlot s (d - 1)) (bytes-of-slot p 0 (omega arith) b ∙ slot-five p 0 (omega arith) ∙ five-of p h)

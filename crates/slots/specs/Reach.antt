@@ -5,7 +5,7 @@ use mathlib.Core.List.{List}
 use lib.Dec.{ltb}
 use Rattle.number.specs.declared.Number.{Number}
 use Rattle.number.specs.Number.{zeros}
-use Rattle.slots.specs.Slots.{slot, numberIn, putSlot, putIn}
+use Rattle.slots.specs.Slots.{numberIn, putIn}
 use Rattle.slots.specs.Reports.{overLimits}
 
 -- report 1, or report 2 of a literal that takes n
@@ -23,10 +23,3 @@ numberAt s d k = cond (lacking s d (k + 1)) zeros (numberIn s (d - (k + 1)))
 -- the stack with that number replaced; as it was where there is none
 unfoldable pub putAt : List ℕ → ℕ → ℕ → Number → List ℕ
 putAt s d k n = cond (lacking s d (k + 1)) s (putIn s (d - (k + 1)) n)
-
--- with the two top slots exchanged, and with the top slot a copy of the one below
-unfoldable pub swapped : List ℕ → ℕ → List ℕ
-swapped s d = cond (lacking s d 2) s (putSlot (putSlot s (d - 2) (slot s (d - 1))) (d - 1) (slot s (d - 2)))
-
-unfoldable pub copied : List ℕ → ℕ → List ℕ
-copied s d = cond (lacking s d 2) s (putSlot s (d - 1) (slot s (d - 2)))

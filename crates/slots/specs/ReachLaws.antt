@@ -1,18 +1,19 @@
 -- What a stack lacks or has, a law a way to find out.
 use Prim.Native.Nat.{ℕ, _+_, _-_, _*_, _≤_, _<_}
-use mathlib.Core.Path.{_≡_, refl, sym}
+use mathlib.Core.Path.{_≡_, refl, sym, _∙_, ap}
 use mathlib.Core.Bool.{Bool, true, false, _||_}
 use mathlib.Core.List.{List}
 use native.Mathlib.Omega.{arith}
 use borrow.Author.Tests.{lt-ltb, le-ltb, ltb-true, ltb-false}
 use lib.Dec.{ltb}
-use lib.ListN.{length}
+use lib.ListN.{length, getD}
 use Rattle.number.specs.declared.Number.{Number}
 use Rattle.number.specs.Number.{zeros}
 use Rattle.slots.specs.Slots.{slot, numberIn, putSlot, putIn}
+use Rattle.slots.specs.SlotLaws.{bytes-of-slot}
 use Rattle.slots.specs.Reports.{overLimits}
-use Rattle.slots.specs.LimitLaws.{Within, within, within-of, over-length, over-depth}
-use Rattle.slots.specs.Reach.{lacking, numberAt, putAt, swapped, copied}
+use Rattle.slots.specs.LimitLaws.{Within, within, within-of, over-depth}
+use Rattle.slots.specs.Reach.{lacking, numberAt, putAt}
 
 module _ (s : List ℕ) (d n : ℕ) where
   pub lacking-over : overLimits s d ≡ true → lacking s d n ≡ true
@@ -44,10 +45,6 @@ module _ (s : List ℕ) (d n : ℕ) where
       go true e k = absurd (let z : _≡_ {A = ℕ} 0 1 = cc in omega arith)
       go false e k = (within-of s d e, ltb-false d n k)
 
-  -- with fewer it is not lacking either
-  pub has-fewer : (m : ℕ) → m ≤ n → lacking s d n ≡ false → (Within s d × (m ≤ d))
-  has-fewer m g h = (has h .0, omega (arith, has h))
-
 module _ (s : List ℕ) (d k : ℕ) where
   pub none-at : lacking s d (k + 1) ≡ true → numberAt s d k ≡ zeros
   unfolding numberAt
@@ -64,3 +61,12 @@ module _ (s : List ℕ) (d k : ℕ) where
   pub put-there : (n : Number) → lacking s d (k + 1) ≡ false → putAt s d k n ≡ putIn s (d - (k + 1)) n
   unfolding putAt
   put-there n h = simp h
+
+  -- where the bytes are bytes, it is put as the bytes of its slot
+  pub put-slot-there : (i : ℕ) → ((j : ℕ) → getD s j 0 < 256) → 5 * i + 5 ≤ length s → lacking s d (k + 1) ≡ false → putAt s d k (numberIn s i) ≡ putSlot s (d - (k + 1)) (slot s i)
+  put-slot-there i b h l = put-there (numberIn s i) l ∙ ap (putSlot s (d - (k + 1))) (bytes-of-slot s i h b)
+
+-- what a stack lacks goes by its length alone
+pub lacking-same : (s t : List ℕ) (d n : ℕ) → length t ≡ length s → lacking t d n ≡ lacking s d n
+unfolding lacking overLimits
+lacking-same s t d n h = simp h

@@ -73,13 +73,17 @@ module _ (s : List ℕ) (i : ℕ) (h : 5 * i + 5 ≤ length s) where
       rw (append-assoc, ← drop-drop 5 (5 * i) s)
       (ap (λ (r : List ℕ). take (5 * i) s ++ r) (take-append-drop 5 (drop (5 * i) s)) ∙ take-append-drop (5 * i) s)
 
-  -- or its own number
-  pub number-kept : ((k : ℕ) → getD s k 0 < 256) → putIn s i (numberIn s i) ≡ s
+  -- a number's bytes are those of the slot that it is read from
+  pub bytes-of-slot : ((k : ℕ) → getD s k 0 < 256) → bytesOf (numberIn s i) ≡ slot s i
   unfolding numberIn bytesOf
-  number-kept b =
+  bytes-of-slot b =
       let at = 5 * i in
       let are = word-bytes _ _ _ _ (b (at + 1)) (b (at + 2)) (b (at + 3)) (b (at + 4)) in
-      ap (putSlot s i) (rw (are .0, are .1, are .2, are .3) refl ∙ sym slot-five) ∙ slot-kept
+      rw (are .0, are .1, are .2, are .3) refl ∙ sym slot-five
+
+  -- so putting it there again changes nothing
+  pub number-kept : ((k : ℕ) → getD s k 0 < 256) → putIn s i (numberIn s i) ≡ s
+  number-kept b = ap (putSlot s i) (bytes-of-slot b) ∙ slot-kept
 
   pub length-putSlot : (five : List ℕ) → length five ≡ 5 → length (putSlot s i five) ≡ length s
   unfolding putSlot
@@ -89,10 +93,3 @@ module _ (s : List ℕ) (i : ℕ) (h : 5 * i + 5 ≤ length s) where
 pub five-of : (p : List ℕ) → length p ≡ 5 → fiveAt p 0 ≡ p
 unfolding slot
 five-of p h = sym (slot-five p 0 (omega arith)) ∙ take-all 5 p (omega arith)
-
--- five bytes of another list
-pub put-all : (s : List ℕ) (i : ℕ) → 5 * i + 5 ≤ length s → (p : List ℕ) → length p ≡ 5 → ((k : ℕ) → getD p k 0 < 256)
-    → set (putFour s i (fourIn p 0)) (5 * i) (getD p 0 0) ≡ putSlot s i p
-put-all s i h p f b =
-    let are = word-bytes (getD p 4 0) (getD p 3 0) (getD p 2 0) (getD p 1 0) (b 4) (b 3) (b 2) (b 1) in
-    first-last s i h (getD p 0 0) _ _ _ _ ∙ ap (putSlot s i) (rw (are .0, are .1, are .2, are .3) refl ∙ five-of p f)

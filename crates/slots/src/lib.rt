@@ -1,20 +1,16 @@
-// The lent stack: its limits, where the bytes of a number stand on it, a push onto it and a view of its top.
+// The lent stack: its limits, where the bytes of a number stand on it, and a view of its top.
 mod limits;
 mod outcome;
 mod places;
-mod pushing;
 mod reach;
 mod viewing;
 
 pub use limits::over_limits;
 pub use outcome::Outcome;
 pub use places::b1_at;
-pub use places::copy;
 pub use places::malformed_at;
 pub use places::put_at;
-pub use places::swap;
 pub use places::word_at;
-pub use pushing::push;
 pub use reach::lacks;
 pub use reach::refusal;
 pub use viewing::view;

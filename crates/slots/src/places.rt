@@ -3,13 +3,12 @@
 use crate::reach::lacks;
 use number::Number;
 ghost use mathlib.Core.Path.{_≡_};
-ghost use mathlib.Core.Bool.{false};
-ghost use Prim.Native.Nat.{_+_, _-_, _*_, _≤_};
+ghost use Prim.Native.Nat.{_+_, _*_, _≤_};
 ghost use lib.ListN.{length};
 ghost use Rattle.number.specs.Number.{number as numberOf, malformed};
-ghost use Rattle.slots.specs.Slots.{slot as slotOf, putSlot, putIn};
+ghost use Rattle.slots.specs.Slots.{putIn};
 ghost use Rattle.slots.specs.SlotLaws.{fourIn, putFour};
-ghost use Rattle.slots.specs.Reach.{lacking, numberAt, putAt, swapped as swappedSlots, copied};
+ghost use Rattle.slots.specs.Reach.{numberAt, putAt};
 
 // b2 to b5 the other way round, as the machine holds a word: the compiler reads them at once.
 fn four_in(stack: &[u8], slot: usize) -> u32
@@ -82,64 +81,4 @@ pub fn put_at(stack: &mut [u8], depth: usize, above: u8, b1: u8, word: u32)
         return;
     }
     put_in(stack, depth - nth, Number { b1, word });
-}
-
-// The bytes of a slot as they are, whatever they mean.
-fn five_in(stack: &[u8], slot: usize) -> [u8; 5]
-    requires { ⌜ 5 * slot + 5 ≤ length (now stack) ⌝ }
-    ensures { λ r. ⌜ r ≡ slotOf (now (stack .entry)) slot ⌝ }
-{
-    let at = 5 * slot;
-    [
-        stack[at],
-        stack[at + 1],
-        stack[at + 2],
-        stack[at + 3],
-        stack[at + 4],
-    ]
-}
-
-fn put_five(stack: &mut [u8], slot: usize, five: [u8; 5])
-    requires { ⌜ 5 * slot + 5 ≤ length (now stack) ⌝ }
-    ensures { λ _. ⌜ now (stack .exit) ≡ putSlot (now (stack .entry)) slot five ⌝ }
-{
-    let at = 5 * slot;
-    stack[at] = five[0];
-    stack[at + 1] = five[1];
-    stack[at + 2] = five[2];
-    stack[at + 3] = five[3];
-    stack[at + 4] = five[4];
-}
-
-// Five bytes of the caller's into the top slot.
-pub(crate) fn fill(stack: &mut [u8], depth: usize, number: &[u8])
-    requires { ⌜ (lacking (now stack) depth 1 ≡ false) × (length (now number) ≡ 5) ⌝ }
-    ensures { λ _. ⌜ now (stack .exit) ≡ putSlot (now (stack .entry)) (depth - 1) (now (number .entry)) ⌝ }
-{
-    put_four(stack, depth - 1, four_in(number, 0));
-    stack[5 * (depth - 1)] = number[0];
-}
-
-// The two top slots, exchanged.
-pub fn swap(stack: &mut [u8], depth: usize)
-    ensures { λ _. ⌜ now (stack .exit) ≡ swappedSlots (now (stack .entry)) depth ⌝ }
-{
-    if lacks(stack, depth, 2) {
-        return;
-    }
-    let lower = five_in(stack, depth - 2);
-    let top = five_in(stack, depth - 1);
-    put_five(stack, depth - 2, top);
-    put_five(stack, depth - 1, lower);
-}
-
-// The top slot made a copy of the one below it.
-pub fn copy(stack: &mut [u8], depth: usize)
-    ensures { λ _. ⌜ now (stack .exit) ≡ copied (now (stack .entry)) depth ⌝ }
-{
-    if lacks(stack, depth, 2) {
-        return;
-    }
-    let below = five_in(stack, depth - 2);
-    put_five(stack, depth - 1, below);
 }

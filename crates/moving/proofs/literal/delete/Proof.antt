@@ -3,8 +3,8 @@ use mathlib.Core.Path.{sym, _∙_}
 use native.Mathlib.Omega.{arith}
 use Rattle.slots.specs.ReachLaws.{has}
 use Rattle.literals.specs.MoveLaws.{delete-lacking, delete-done}
-use Rattle.moving.proofs.delete.Statement.{statement}
-use Rattle.moving.proofs.delete.Tie as tie
+use Rattle.moving.proofs.literal.delete.Statement.{statement}
+use Rattle.moving.proofs.literal.delete.Tie as tie
 
 returns : tie.Need-returns
 returns c = let t = c .before in delete-lacking _ _ (sym (t .before .lacks .ensures) ∙ t .if1 .taken) _ (c .refusal .ensures)

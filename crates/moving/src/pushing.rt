@@ -1,11 +1,7 @@
 // A push: five bytes of the caller's into the slot above the top.
-use crate::outcome::Outcome;
-use crate::places::fill;
-use crate::places::malformed_at;
-use crate::reach::lacks;
-use crate::reach::refusal;
+use slots::Outcome;
 ghost use mathlib.Core.Path.{_≡_};
 ghost use Rattle.slots.specs.Push.{pushOf};
 
 // Room is asked for by the depth after it, which wraps to 0 where it would be too large for any stack. The bytes are tested as the one number of a
 // stack of their own.
@@ -13,19 +9,21 @@ pub fn push(stack: &mut [u8], depth: usize, number: &[u8]) -> Outcome
     ensures { λ r. ⌜ pushOf (now (stack .entry)) depth (now (number .entry)) ≡ (r, now (stack .exit)) ⌝ }
 {
     let after = std::num::wrapping_add_usize(depth, 1);
-    if lacks(stack, after, 1) {
+    if slots::lacks(stack, after, 1) {
         return Outcome {
-            report: refusal(stack, depth, 0),
+            report: slots::refusal(stack, depth, 0),
             depth,
         };
     }
     if number.len() != 5 {
         return Outcome { report: 3, depth };
     }
-    if malformed_at(number, 1, 0) {
+    if slots::malformed_at(number, 1, 0) {
         return Outcome { report: 3, depth };
     }
-    fill(stack, after, number);
+    let b1 = slots::b1_at(number, 1, 0);
+    let word = slots::word_at(number, 1, 0);
+    slots::put_at(stack, after, 0, b1, word);
     Outcome {
         report: 0,
         depth: after,

@@ -1,16 +1,16 @@
 -- `push` meets its contract: each way out is a case law of the definition.
 use borrow.Author.Needs.{needs}
-use Prim.Native.Nat.{ℕ, _+_, _*_, _≤_}
-use mathlib.Core.Path.{_≡_, sym, _∙_, ap, ap₂}
-use mathlib.Core.Bool.{false}
+use Prim.Native.Nat.{ℕ}
+use mathlib.Core.Path.{sym, _∙_, ap, ap₂}
 use mathlib.Core.List.{List}
 use native.Mathlib.Omega.{arith}
-use lib.ListN.{length}
-use Rattle.slots.specs.declared.outcome.Outcome.{Outcome}
-use Rattle.slots.specs.PushLaws.{push-lacking, Room, push-room, alone, push-not-five, push-malformed, pushed}
+use Rattle.number.specs.Number.{number}
 use Rattle.slots.specs.Slots.{putSlot}
-use Rattle.slots.proofs.pushing.push.Statement.{statement}
-use Rattle.slots.proofs.pushing.push.Tie as tie
+use Rattle.slots.specs.Reach.{putAt}
+use Rattle.slots.specs.PushLaws.{push-lacking, Room, push-room, alone, put-alone, push-not-five, push-malformed, pushed}
+use Rattle.literals.specs.Operate.{outcome}
+use Rattle.moving.proofs.pushing.push.Statement.{statement}
+use Rattle.moving.proofs.pushing.push.Tie as tie
 
 returns : tie.Need-returns
 returns c =
@@ -33,13 +33,17 @@ returns-3 c =
 returns-4 : tie.Need-returns-4
 returns-4 c =
     let p = c .before .before in
-    let m = p .before .before in
+    let w = p .before .before in
+    let m = w .before .before in
     let f = m .before .before in
-    let r = room (f .before) in
-    let i = c .before .before .before .before .before .before .before .before .before .before .before .before .before in
+    let e = f .before in
+    let r = room e in
+    let i = c .before .before .before .before .before .before .before .before .before .before .before .before .before .before .before in
+    let put = p .put-at .ensures ∙ ap (putAt (i .args .stack .now) _ 0) (ap₂ number (w .before .b1-at .ensures) (w .word-at .ensures)) in
     pushed _ _ _ (r .limits) (r .fits) (f .if2 .left) (sym (alone _ (f .if2 .left)) ∙ sym (m .before .malformed-at .ensures) ∙ m .if3 .left)
-    ∙ ap₂ (λ (d : ℕ) (t : List ℕ). (record { report = 0; depth = d }, t)) (sym (r .next))
-    (ap (λ (k : ℕ). putSlot (i .args .stack .now) k (i .args .number .now)) (r .slot) ∙ sym (p .fill .ensures))
+    ∙ ap₂ (λ (d : ℕ) (t : List ℕ). (outcome 0 d, t)) (sym (r .next))
+    (ap (λ (k : ℕ). putSlot (i .args .stack .now) k (i .args .number .now)) (r .slot)
+    ∙ sym (put ∙ put-alone _ _ _ (sym (e .before .lacks .ensures) ∙ e .if1 .left) (f .if2 .left) (λ k. omega (arith, c .before .before .before .before .before .before .before .before .before .before .before .before .before .shared-slice-known .given k))))
 
 pub push-spec : {M : Type 1} → statement M
 push-spec =
@@ -55,6 +59,8 @@ push-spec =
     (λ c κs. tt)
     (λ c. search needs)
     returns-3
-    (λ c κs. let f = c .before .before .before in (sym (f .before .before .lacks .ensures) ∙ f .before .if1 .left, f .if2 .left))
+    (λ c κs. tt)
+    (λ c κs. tt)
+    (λ c κs. tt)
     (λ c. search needs)
     returns-4)
