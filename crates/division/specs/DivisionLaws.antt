@@ -1,6 +1,6 @@
 -- Division's laws: the 33 digits as one division, what the ending makes of them, and a law for each way through the definition.
-use mathlib.Core.Path.{_≡_, _∙_, ap, ap₂}
-use Prim.Native.Nat.{ℕ, _+_, _*_, _-_, _^_, _/_, _%_, _≤_, _<_}
+use mathlib.Core.Path.{_≡_, refl, sym, _∙_, ap, ap₂}
+use Prim.Native.Nat.{ℕ, zero, suc, _+_, _*_, _-_, _^_, _/_, _%_, _≤_, _<_}
 use native.Mathlib.Omega.{arith}
 use borrow.Author.Tests.{eq-eqb, ne-eqb}
 use Rattle.number.specs.declared.Number.{Number}
@@ -12,7 +12,7 @@ use Rattle.number.specs.RestackValue.{restacked-bytes}
 use Rattle.number.specs.Unpack.{unpackedOf}
 use Rattle.ending.specs.declared.answer.Answer.the-variants.{Done, TooBig}
 use Rattle.ending.specs.Ending.{loose, normal, rounded, closed, ended}
-use Rattle.ending.specs.EndingLaws.{rounded-below, ended-set, ended-once}
+use Rattle.ending.specs.EndingLaws.{rounded-below, closed-rounded, ended-set, ended-once}
 use Rattle.division.specs.Rounds.{Mantissas, rounds33, digit34}
 use Rattle.division.specs.RoundsLaws.{Writes, quotient-law, writes-div, writes-at-least, writes-below, digit34-zero}
 use Rattle.division.specs.Division.{endedRounds, fullQuotient, restackedQuotient, quotientOf}
@@ -103,8 +103,31 @@ module _ (x y : Number) {a b : Unpacked} (p : Parts x a) (r : Parts y b) {q : �
   unfolding fullQuotient
   parts-quotient = rw (p .sign-is, p .m-is, p .e-is, r .sign-is, r .m-is, r .e-is) (quotient-full x y (p .full) (r .full))
 
-  pub quotient-doubled : q < 2 ^ 32 → quotientOf x y ≡ closed ((a .sign + b .sign) % 2) (loose q (a .e + 129 + 256 - b .e - 1) 0)
+  quotient-doubled : q < 2 ^ 32 → quotientOf x y ≡ closed ((a .sign + b .sign) % 2) (loose q (a .e + 129 + 256 - b .e - 1) 0)
   quotient-doubled g = rw h (parts-quotient ∙ ended-doubled _ _ (omega arith) _ _ (omega arith))
 
-  pub quotient-whole : 2 ^ 32 ≤ q → quotientOf x y ≡ closed ((a .sign + b .sign) % 2) (loose (q / 2) (a .e + 129 + 256 - b .e) (q % 2))
+  quotient-whole : 2 ^ 32 ≤ q → quotientOf x y ≡ closed ((a .sign + b .sign) % 2) (loose (q / 2) (a .e + 129 + 256 - b .e) (q % 2))
   quotient-whole g = rw h (parts-quotient ∙ ended-whole _ _ (omega arith) _ _ (omega arith))
+
+  -- both at once: w is 1 where there is no doubling, and 0 where there is one
+  pub quotient-closed : (w : ℕ) → w ≡ q / 2 ^ 32 → q < 2 ^ 33
+      → quotientOf x y ≡ closed ((a .sign + b .sign) % 2) (loose ((q + w) / 2 ^ w) (a .e + 128 + 256 - b .e + w) 0)
+  quotient-closed zero i l =
+      let byte = r .full .bytes .b1< in
+      quotient-doubled (omega (arith, i))
+      ∙ ap₂ (λ (t e : ℕ). closed ((a .sign + b .sign) % 2) (loose t e 0)) (omega arith) (omega (arith, byte, r .e-is))
+  quotient-closed (suc zero) i l =
+      let byte = r .full .bytes .b1< in
+      quotient-whole (omega (arith, i))
+      ∙ sym (closed-rounded ((a .sign + b .sign) % 2) (loose (q / 2) (a .e + 129 + 256 - b .e) (q % 2)))
+      ∙ ap₂ (λ (t e : ℕ). closed ((a .sign + b .sign) % 2) (loose t e 0)) (omega arith) (omega (arith, byte, r .e-is))
+  quotient-closed (suc (suc w)) i l = absurd (omega (arith, i))
+
+-- and it fits 32 bits
+pub quotient-fits : (q : ℕ) → q < 2 ^ 33 - 1 → (q + q / 2 ^ 32) / 2 ^ (q / 2 ^ 32) < 2 ^ 32
+quotient-fits q h = go (q / 2 ^ 32) refl
+  where
+    go : (w : ℕ) → q / 2 ^ 32 ≡ w → (q + w) / 2 ^ w < 2 ^ 32
+    go zero e = omega (arith, e)
+    go (suc zero) e = omega (arith, e)
+    go (suc (suc w)) e = absurd (omega (arith, e))

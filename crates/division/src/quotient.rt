@@ -33,12 +33,11 @@ pub fn division(x: Number, y: Number) -> Answer
         return Answer::Done(Number { b1: 0, word: 0 });
     }
     // The ending keeps an exponent as e + 256.
-    let e = a.e as u64 + 129 + 256 - b.e as u64;
+    let e = a.e as u64 + 128 + 256 - b.e as u64;
     let q = digits(a.m, b.m);
     let sign = (a.sign + b.sign) % 2;
-    // A quotient below 2^32 needs one doubling, which takes in digit 33.
-    if q < 4294967296 {
-        return ending::close(sign, q as u32, e - 1, 0);
-    }
-    ending::close(sign, (q / 2) as u32, e, q % 2)
+    // A quotient below 2^32 needs one doubling, which takes in digit 33 and lowers the exponent. Any other is rounded by it. Which it is, is as good
+    // as random, so the shift goes by it and no branch does.
+    let whole = q / 4294967296;
+    ending::close(sign, ((q + whole) >> whole) as u32, e + whole, 0)
 }

@@ -1,5 +1,5 @@
 -- The ending's laws: a law for each way through its definitions.
-use mathlib.Core.Path.{_≡_, refl, sym, _∙_}
+use mathlib.Core.Path.{_≡_, refl, sym, _∙_, ap}
 use mathlib.Core.Logic.{_⊎_, inl, inr}
 use mathlib.Core.Bool.{Bool, true, false, cond}
 use Prim.Native.Nat.{ℕ, zero, suc, _+_, _*_, _-_, _^_, _%_, _≤_, _<_}
@@ -81,6 +81,13 @@ module _ (s : ℕ) (l : Loose) where
       simp (le-ltb _ _ g, le-ltb _ _ k, ne-eqb _ _ f)
 
   -- no other way out is report 6
+  -- the digit that rounds may have been added before
+  pub closed-rounded : closed s (loose (rounded l) (l .e) 0) ≡ closed s l
+  unfolding closed
+  closed-rounded =
+      let same : rounded l + 0 % 2 ≡ rounded l = omega arith in
+      ap (λ (m : ℕ). cond (ltb (255 + 256) (l .e)) TooBig (cond (ltb (l .e) 256) (Done zeros) (cond (eqb (l .e) 256) (Done (fullOf s 1 (2 ^ 31))) (Done (fullOf s (l .e - 256) m))))) same
+
   pub closed-too-big-only : closed s l ≡ TooBig → 511 < l .e
   unfolding closed
   closed-too-big-only h = ltb-true _ _ (first _ _ (done (ltb (l .e) 256) (eqb (l .e) 256) _ _ _) h)

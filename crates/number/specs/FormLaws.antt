@@ -1,5 +1,5 @@
 -- A law for each case of `formOf`, by the word.
-use Prim.Native.Nat.{_^_, _*_, _+_, _≤_, _<_}
+use Prim.Native.Nat.{ℕ, _^_, _/_, _*_, _+_, _≤_, _<_}
 use mathlib.Core.Path.{_≡_, refl, ap, subst}
 use mathlib.Core.Logic.{_⊎_, inl, inr}
 use mathlib.Core.Bool.{Bool, true, false, cond}
@@ -69,6 +69,15 @@ module _ (x : Number) where
         go : (t : Bool) → ltb (x .word) (255 * 2 ^ 24 + 256) ≡ t → malformed x ≡ false
         go true e = form-malformed-is (form-odd x h g (ltb-true _ _ e))
         go false e = form-malformed-is (form-negative x h g (ltb-false _ _ e) k)
+
+-- neither malformed nor odd
+pub form-stays : (x : Number) → x .b1 ≡ 0 → x .word < 2 ^ 32 → malformed x ≡ false → (x .word / 2 ^ 8 ≡ 255 * 2 ^ 16 → ⊥) → formOf x ≡ Short
+form-stays x h l m n = go (ltb (x .word) (2 ^ 24)) (ltb (x .word) (255 * 2 ^ 24)) refl refl
+  where
+    go : (a b : Bool) → ltb (x .word) (2 ^ 24) ≡ a → ltb (x .word) (255 * 2 ^ 24) ≡ b → formOf x ≡ Short
+    go true b i j = form-short x h (ltb-true _ _ i)
+    go false true i j = absurd (let z : _≡_ {A = ℕ} 0 1 = cc (m, malformed-between x h (ltb-false _ _ i) (ltb-true _ _ j)) in omega arith)
+    go false false i j = form-negative x h (ltb-false _ _ j) (let g = ltb-false (x .word) (255 * 2 ^ 24) j in omega arith) l
 
 -- What the form says of the bytes, where a law asks for it.
 abbrev pub FormBytes : Number → Form → Type 0

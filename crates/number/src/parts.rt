@@ -24,17 +24,11 @@ pub fn complement(h: u16) -> u16
     std::num::wrapping_add_u16(65535 - h, 1)
 }
 
-// The two bytes of a half in the other order: a short number's low byte comes first.
-fn turned(h: u16) -> u16
-    ensures { λ r. ⌜ r ≡ h % 256 * 256 + h / 256 ⌝ }
-{
-    h % 256 * 256 + h / 256
-}
-
+// A short number's low byte comes first, as the machine has it: with the word swapped, its low half stands as it is.
 pub fn low_half(word: u32) -> u16
     ensures { λ r. ⌜ r ≡ low (number 0 word) ⌝ }
 {
-    turned((word / 256 % 65536) as u16)
+    (swapped(word) / 256 % 65536) as u16
 }
 
 pub fn short_magnitude(word: u32) -> u16
@@ -56,7 +50,7 @@ pub fn full_word(sign: u8, m: u64) -> u32
 pub fn halves_word(sign_byte: u8, h: u16) -> u32
     ensures { λ r. ⌜ r ≡ halves «sign_byte» h .word ⌝ }
 {
-    sign_byte as u32 * 16777216 + turned(h) as u32 * 256
+    swapped(sign_byte as u32 + h as u32 * 256)
 }
 
 pub fn short_word(sign: u8, v: u16) -> u32

@@ -1,13 +1,16 @@
 -- Int by what is left when the whole part is taken away; and of short numbers and odd, by the short route.
-use Prim.Native.Nat.{ℕ, _+_, _-_, _^_, _%_, _≤_, _<_}
+use Prim.Native.Nat.{ℕ, _*_, _/_, _+_, _-_, _^_, _%_, _≤_, _<_}
 use mathlib.Core.Path.{_≡_, refl, sym, _∙_, ap, ap₂}
+use mathlib.Core.Logic.{inl, inr}
 use mathlib.Core.Bool.{true, false}
 use borrow.Author.Tests.{eq-eqb, ne-eqb}
 use native.Mathlib.Omega.{arith}
 use lib.Count.{leadingZeros}
 use Rattle.number.specs.declared.Number.{Number}
 use Rattle.number.specs.Number.{formOf, zeros, sign, low, complementOf, fullOf, halves, shortOf, shortMagnitude, passesZeroTest}
-use Rattle.number.specs.NumberLaws.{Bytes, low-halves, zero-passes, some-fails}
+use Rattle.number.specs.declared.form.Form.the-variants.{Short}
+use Rattle.number.specs.FormLaws.{FormBytes, form-bytes}
+use Rattle.number.specs.NumberLaws.{places, Bytes, low-halves, zero-passes, some-fails}
 use Rattle.number.specs.Restack.{fullOfShort, restacked}
 use Rattle.number.specs.RestackLaws.{restack-zero}
 use Rattle.number.specs.Negate.{negated}
@@ -129,3 +132,17 @@ module _ (x : Number) (b : Bytes x) (h : x .b1 ≡ 0) (s : sign x ≡ 1) where
       ∙ ap (λ (n : ℕ). Done (halves 255 n)) none)
       (some-fails (halves 255 0) refl (omega arith))
       ∙ odd-less-one x h s z
+
+-- a short number is whole
+pub int-kept : (x : Number) → Bytes x → formOf x ≡ Short → intOf x ≡ Done x
+int-kept x b f = go (form-bytes x Short f)
+  where
+    go : FormBytes x Short → intOf x ≡ Done x
+    go (h, inl z) = int-positive x (omega (arith, z)) ∙ ap Done (truncate-not-full x h)
+    go (h, inr (n, l)) = int-short x b h (omega (arith, n, b .word<)) l
+
+-- and odd becomes -1
+pub int-of-odd : (x : Number) → Bytes x → x .b1 ≡ 0 → x .word / 2 ^ 8 ≡ 255 * 2 ^ 16 → intOf x ≡ Done minusOne
+int-of-odd x b h e =
+    let two : x .word / 2 ^ 16 ≡ 255 * 2 ^ 8 = places (x .word) .0 ∙ ap (λ (k : ℕ). k / 2 ^ 8) e in
+    int-odd x b h (omega (arith, e, b .word<)) (ap₂ (λ (i j : ℕ). 256 * (i % 256) + j % 256) e two)

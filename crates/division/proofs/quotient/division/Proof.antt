@@ -1,8 +1,8 @@
 -- `division` meets its contract: each return is a law of `quotientOf`. Where neither number counts as zero, what `unpack` gave are the parts of two
 -- full numbers, and the laws close with the digits of the 33 rounds.
-use mathlib.Core.Path.{sym, _∙_}
+use mathlib.Core.Path.{refl, sym, _∙_}
 use native.Mathlib.Omega.{arith}
-use Rattle.division.specs.DivisionLaws.{Parts, quotient-by-zero, quotient-of-zero, exponent-is, parts-of, quotient-doubled, quotient-whole}
+use Rattle.division.specs.DivisionLaws.{Parts, quotient-by-zero, quotient-of-zero, exponent-is, parts-of, rounds33-below, quotient-closed, quotient-fits}
 use Rattle.division.proofs.quotient.division.Statement.{statement}
 use Rattle.division.proofs.quotient.division.Tie as tie
 
@@ -28,17 +28,18 @@ digits-requires c κs = let n = c .before .before in omega (arith, dividend n, d
 add-sign : tie.Need-add-sign
 add-sign c = let n = c .before .before .before .before .before in omega (arith, dividend n, divisor n)
 
+cast-close : tie.Need-cast-close
+cast-close c =
+    let d = c .before .before in
+    let n = d .before .before .before in
+    let below = rounds33-below (n .before .before .unpack2 .result .m) (n .before .before .before .before .before .unpack .result .m) (omega (arith, dividend n, divisor n)) in
+    omega (arith, quotient-fits (d .digits .result) (omega (arith, d .digits .ensures .0, below)))
+
 returns-3 : tie.Need-returns-3
 returns-3 c =
-    let d = c .before .before .before .before in
+    let d = c .before .before .before in
     let n = d .before .before .before in
-    c .close .ensures ∙ sym (quotient-doubled _ _ (dividend n) (divisor n) (d .digits .ensures .0) (omega arith))
-
-returns-4 : tie.Need-returns-4
-returns-4 c =
-    let d = c .before .before .before .before in
-    let n = d .before .before .before in
-    c .close2 .ensures ∙ sym (quotient-whole _ _ (dividend n) (divisor n) (d .digits .ensures .0) (omega arith))
+    c .close .ensures ∙ sym (quotient-closed _ _ (dividend n) (divisor n) (d .digits .ensures .0) _ refl (d .digits .ensures .1))
 
 pub division-spec : {M : Type 1} → statement M
 division-spec =
@@ -57,8 +58,7 @@ division-spec =
     add-sign
     (λ c. omega arith)
     (λ c. omega arith)
-    (λ c κs. tt)
-    returns-3
+    cast-close
     (λ c. omega arith)
     (λ c κs. tt)
-    returns-4)
+    returns-3)

@@ -3,26 +3,23 @@ use mathlib.Core.Path.{sym, ap, _∙_}
 use Prim.Native.Nat.{ℕ, _-_}
 use native.Mathlib.Omega.{arith}
 use Rattle.number.specs.Number.{number}
-use Rattle.ending.specs.EndingLaws.{closed-too-big, closed-below-zero, closed-smallest, closed-stored}
+use Rattle.ending.specs.EndingLaws.{closed-too-big, closed-stored}
 use Rattle.ending.specs.declared.answer.Answer.the-variants.{Done}
 use Rattle.ending.proofs.closing.close.Statement.{statement}
 use Rattle.ending.proofs.closing.close.Tie as tie
 
 returns-3 : tie.Need-returns-3
-returns-3 c = ap (λ (w : ℕ). Done (number 1 w)) (c .full-word .ensures) ∙ sym (closed-smallest _ _ (omega arith))
-
-returns-4 : tie.Need-returns-4
-returns-4 c = ap (λ (w : ℕ). Done (number (c .before .before .before .before .args .e - 256) w)) (c .full-word2 .ensures) ∙ sym (closed-stored _ _ (omega arith) (omega arith))
+returns-3 c = ap (λ (w : ℕ). Done (number (c .before .before .before .args .e - 256) w)) (c .full-word .ensures) ∙ sym (closed-stored _ _ (omega arith) (omega arith))
 
 pub close-spec : {M : Type 1} → statement M
 close-spec =
     tie.close
     (tie.spec
     (λ c. sym (closed-too-big _ _ (omega arith)))
-    (λ c. sym (closed-below-zero _ _ (omega arith)))
-    (λ c κs. tt)
-    returns-3
+    (λ c κs. omega arith)
+    (λ c. c .least .ensures _ _)
     (λ c. omega arith)
     (λ c. omega arith)
+    (λ c. omega arith)
     (λ c κs. tt)
-    returns-4)
+    returns-3)

@@ -1,23 +1,16 @@
--- `low_half` meets its contract: the middle bytes turned around.
-use Prim.Native.Nat.{ℕ, _+_, _*_, _^_, _/_, _%_}
-use mathlib.Core.Path.{_≡_, sym, _∙_, ap}
+-- `low_half` meets its contract: the middle bytes of the word swapped.
+use Prim.Native.Nat.{ℕ, _+_, _*_, _^_, _/_, _%_, _<_}
+use mathlib.Core.Path.{_≡_, _∙_, ap}
 use native.Mathlib.Omega.{arith}
-use Rattle.number.specs.NumberLaws.{places}
+use Rattle.number.specs.Number.{wordOf}
 use Rattle.number.proofs.parts.low_half.Statement.{statement}
 use Rattle.number.proofs.parts.low_half.Tie as tie
 
-middle : (q : ℕ) → q % 2 ^ 16 % 256 * 256 + q % 2 ^ 16 / 256 ≡ 256 * (q % 256) + q / 2 ^ 8 % 256
-middle q =
-    let r = q % 2 ^ 16 in
-    let k = q / 2 ^ 16 in
-    let all : q ≡ 2 ^ 8 * (2 ^ 8 * k + r / 256) + r % 256 = omega arith in
-    let over : q / 2 ^ 8 ≡ 2 ^ 8 * k + r / 256 = omega arith in
-    omega arith
+middle : (b c d e : ℕ) → c < 256 → d < 256 → e < 256 → wordOf b c d e / 2 ^ 8 % 2 ^ 16 ≡ 256 * c + d
+middle b c d e p q r = let one : wordOf b c d e / 2 ^ 8 ≡ b * 2 ^ 16 + c * 2 ^ 8 + d = omega arith in omega arith
 
 returns : tie.Need-returns
-returns c =
-    let w = c .before .args .word in
-    c .turned .ensures ∙ middle (w / 2 ^ 8) ∙ ap (λ (k : ℕ). 256 * (w / 2 ^ 8 % 256) + k % 256) (sym (places w .0))
+returns c = ap (λ (f : ℕ). f / 2 ^ 8 % 2 ^ 16) (c .swapped .ensures) ∙ middle _ _ _ _ (omega arith) (omega arith) (omega arith)
 
 pub low-half-spec : {M : Type 1} → statement M
-low-half-spec = tie.close (tie.spec (λ c. omega arith) (λ c κs. tt) returns)
+low-half-spec = tie.close (tie.spec (λ c κs. tt) (λ c. omega arith) returns)
