@@ -11,17 +11,5 @@ use Rattle.trenailer.proofs.trenailer_view.Tie as tie
 has-view : (c : tie.Else1) → length (viewOf (c .before .before .before .args .stack .now) (c .before .before .before .args .depth)) ≡ 0 → ⊥
 has-view c e = c .if1 .left (ap length (c .before .view .ensures) ∙ e)
 
-returns : tie.Need-returns
-returns c = part-empty _ _ _ (sym (ap length (c .before .view .ensures)) ∙ c .if1 .taken)
-
-sub-start : tie.Need-sub-start
-sub-start c = omega (arith, seen _ _ (has-view c) .some)
-
-mul-start : tie.Need-mul-start
-mul-start c = omega (arith, seen _ _ (has-view c) .fits)
-
-returns-2 : tie.Need-returns-2
-returns-2 c = part-seen _ _ (has-view c) _
-
 pub trenailer-view-spec : {M : Type 1} → statement M
-trenailer-view-spec = tie.close (tie.spec (λ c κs. search needs) returns sub-start mul-start returns-2)
+trenailer-view-spec = tie.close (tie.spec (λ c κs. search needs) (λ c. part-empty _ _ _ (sym (ap length (c .before .view .ensures)) ∙ c .if1 .taken)) (λ c. omega (arith, seen _ _ (has-view c) .some)) (λ c. omega (arith, seen _ _ (has-view c) .fits)) (λ c. part-seen _ _ (has-view c) _))

@@ -4,15 +4,9 @@ use native.Mathlib.Omega.{arith}
 use Rattle.addition.proofs.sum.carry_of.Statement.{statement}
 use Rattle.addition.proofs.sum.carry_of.Tie as tie
 
-returns : tie.Need-returns
-returns c = (simp (lt-ltb _ _ (c .if1 .taken)), omega arith)
-
-returns-2 : tie.Need-returns-2
-returns-2 c = (simp (le-ltb _ _ (c .if1 .left)), omega arith)
-
 pub carry-of-spec : {M : Type 1} → statement M
 carry-of-spec =
     tie.close
     (tie.spec
-    returns
-    returns-2)
+    (λ c. (simp (lt-ltb _ _ (c .if1 .taken)), omega arith))
+    (λ c. (simp (le-ltb _ _ (c .if1 .left)), omega arith)))

@@ -26,9 +26,6 @@ returns c = let t = c .before .before in way-lacking _ _ _ (two quotientOf) 2 1 
 there : (c : tie.Else1) → lacking (c .before .before .before .before .before .args .stack .now) (c .before .before .before .before .before .args .depth .now) 2 ≡ false
 there c = sym (c .before .lacks .ensures) ∙ c .if1 .left
 
-returns-2 : tie.Need-returns-2
-returns-2 c = two-malformed _ _ _ quotientOf line (there (c .before .before .before)) (simp (sym (c .before .malformed-at .ensures) ∙ c .if2 .taken))
-
 returns-3 : tie.Need-returns-3
 returns-3 c =
     let m = c .before .before .before in
@@ -55,7 +52,7 @@ divide-spec =
     returns
     (λ c κs. tt)
     (λ c. search needs)
-    returns-2
+    (λ c. two-malformed _ _ _ quotientOf line (there (c .before .before .before)) (simp (sym (c .before .malformed-at .ensures) ∙ c .if2 .taken)))
     (λ c κs. tt)
     (λ c. search needs)
     returns-3

@@ -12,8 +12,5 @@ returns c =
     let i = c .before .before in
     c .negate .ensures ∙ sym (ap (λ (t : Bool). secondOf t (number (i .args .b1) (i .args .word))) (c .before .if1 .taken))
 
-returns-2 : tie.Need-returns-2
-returns-2 c = let i = c .before in sym (ap (λ (t : Bool). secondOf t (number (i .args .b1) (i .args .word))) (c .if1 .left))
-
 pub second-spec : {M : Type 1} → statement M
-second-spec = tie.close (tie.spec (λ c κs. tt) returns returns-2)
+second-spec = tie.close (tie.spec (λ c κs. tt) returns (λ c. let i = c .before in sym (ap (λ (t : Bool). secondOf t (number (i .args .b1) (i .args .word))) (c .if1 .left))))

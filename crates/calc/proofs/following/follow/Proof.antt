@@ -17,18 +17,6 @@ loop-again c =
     let l = c .before .before .before .before .before .before .before .before .before .loop in
     (read .kept .0 ∙ l .inv .0, read .kept .1 .0 ∙ l .inv .1)
 
-same-length : tie.Need-same-length Inv-loop μ-loop
-same-length c = c .before .before .end-line .kept .0 ∙ c .before .before .before .before .before .before .before .before .loop .inv .0
-
-same-length-2 : tie.Need-same-length-2 Inv-loop μ-loop
-same-length-2 c = c .before .before .before .before .before .before .before .before .loop .inv .1
-
-same-length-3 : tie.Need-same-length-3 Inv-loop μ-loop
-same-length-3 c = c .before .before .before .loop .inv .0
-
-same-length-4 : tie.Need-same-length-4 Inv-loop μ-loop
-same-length-4 c = c .before .before .before .loop .inv .1
-
 pub follow-spec : {M : Type 1} → statement M
 follow-spec =
     tie.close
@@ -41,9 +29,9 @@ follow-spec =
     (λ c. omega arith)
     loop-again
     (λ c κs. tt)
-    same-length
-    same-length-2
+    (λ c. c .before .before .end-line .kept .0 ∙ c .before .before .before .before .before .before .before .before .loop .inv .0)
+    (λ c. c .before .before .before .before .before .before .before .before .loop .inv .1)
     (λ c. tt)
-    same-length-3
-    same-length-4
+    (λ c. c .before .before .before .loop .inv .0)
+    (λ c. c .before .before .before .loop .inv .1)
     (λ c. tt))

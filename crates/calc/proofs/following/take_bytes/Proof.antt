@@ -18,12 +18,6 @@ loop-again c =
     let l = c .before .before .before .before .before .before .before .before .before .loop in
     (take .kept .0 ∙ l .inv .0, take .kept .1 .0 ∙ l .inv .1)
 
-same-length : tie.Need-same-length Inv-loop μ-loop
-same-length c = c .before .loop .inv .0
-
-same-length-2 : tie.Need-same-length-2 Inv-loop μ-loop
-same-length-2 c = c .before .loop .inv .1
-
 pub take-bytes-spec : {M : Type 1} → statement M
 take-bytes-spec =
     tie.close
@@ -36,6 +30,6 @@ take-bytes-spec =
     (λ c. omega arith)
     (λ c. omega arith)
     loop-again
-    same-length
-    same-length-2
+    (λ c. c .before .loop .inv .0)
+    (λ c. c .before .loop .inv .1)
     (λ c. tt))

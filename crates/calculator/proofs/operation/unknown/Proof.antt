@@ -6,11 +6,5 @@ use Rattle.literals.specs.OperateLaws.{operate-over, operate-refused}
 use Rattle.calculator.proofs.operation.unknown.Statement.{statement}
 use Rattle.calculator.proofs.operation.unknown.Tie as tie
 
-returns : tie.Need-returns
-returns c l h = operate-over _ _ l (sym (c .before .over-limits .ensures) ∙ c .if1 .taken)
-
-returns-2 : tie.Need-returns-2
-returns-2 c l h = operate-refused _ _ l (report-5 _ _ l (within-of _ _ (sym (c .before .over-limits .ensures) ∙ c .if1 .left)) h)
-
 pub unknown-spec : {M : Type 1} → statement M
-unknown-spec = tie.close (tie.spec (λ c κs. tt) returns returns-2)
+unknown-spec = tie.close (tie.spec (λ c κs. tt) (λ c l h. operate-over _ _ l (sym (c .before .over-limits .ensures) ∙ c .if1 .taken)) (λ c l h. operate-refused _ _ l (report-5 _ _ l (within-of _ _ (sym (c .before .over-limits .ensures) ∙ c .if1 .left)) h)))

@@ -20,38 +20,8 @@ Inv-loop stack₀ depth literals current₀ position₀ stack current position =
 abbrev μ-loop : tie.MeasureT-loop
 μ-loop stack₀ depth literals current₀ position₀ stack current position = length literals - position
 
-over-limits-requires : tie.Need-over-limits-requires Inv-loop μ-loop
-over-limits-requires c κs = search needs
-
-same-length : tie.Need-same-length Inv-loop μ-loop
-same-length c = search needs
-
-returns : tie.Need-returns Inv-loop μ-loop
-returns c = run-over _ _ _ (sym (c .before .over-limits .ensures) ∙ c .if1 .taken)
-
-same-length-2 : tie.Need-same-length-2 Inv-loop μ-loop
-same-length-2 c = search needs
-
 not-over : (c : tie.Else1 Inv-loop μ-loop) → overLimits (c .before .before .before .before .before .args .stack .now) (c .before .before .before .before .before .args .depth) ≡ false
 not-over c = sym (c .before .over-limits .ensures) ∙ c .if1 .left
-
-returns-2 : tie.Need-returns-2 Inv-loop μ-loop
-returns-2 c = run-too-long _ _ _ (not-over (c .before)) (c .if2 .taken)
-
-loop-holds : tie.Need-loop-holds Inv-loop μ-loop
-loop-holds c = (run-starts _ _ _ (not-over (c .before)) (c .if2 .left), refl, omega arith)
-
-shared-slice-read-step : tie.Need-shared-slice-read-step Inv-loop μ-loop
-shared-slice-read-step c = omega arith
-
-step-requires : tie.Need-step-requires Inv-loop μ-loop
-step-requires c κs = tt
-
-add-position : tie.Need-add-position Inv-loop μ-loop
-add-position c = omega arith
-
-loop-less : tie.Need-loop-less Inv-loop μ-loop
-loop-less c = omega arith
 
 loop-again : tie.Need-loop-again Inv-loop μ-loop
 loop-again c =
@@ -62,15 +32,6 @@ loop-again c =
       step .kept .0 ∙ l .inv .1,
       omega arith,
     )
-
-same-length-3 : tie.Need-same-length-3 Inv-loop μ-loop
-same-length-3 c = c .before .loop .inv .1
-
-returns-3 : tie.Need-returns-3 Inv-loop μ-loop
-returns-3 c = sym (c .before .loop .inv .0) ∙ at-end _ _ _ _ (c .if3 .taken)
-
-same-length-4 : tie.Need-same-length-4 Inv-loop μ-loop
-same-length-4 c = c .before .before .before .step .kept .0 ∙ c .before .before .before .before .before .before .before .before .loop .inv .1
 
 returns-4 : tie.Need-returns-4 Inv-loop μ-loop
 returns-4 c =
@@ -85,18 +46,18 @@ run-spec =
     (tie.spec
     Inv-loop
     μ-loop
-    over-limits-requires
-    same-length
-    returns
-    same-length-2
-    returns-2
-    loop-holds
-    shared-slice-read-step
-    step-requires
-    add-position
-    loop-less
+    (λ c κs. search needs)
+    (λ c. search needs)
+    (λ c. run-over _ _ _ (sym (c .before .over-limits .ensures) ∙ c .if1 .taken))
+    (λ c. search needs)
+    (λ c. run-too-long _ _ _ (not-over (c .before)) (c .if2 .taken))
+    (λ c. (run-starts _ _ _ (not-over (c .before)) (c .if2 .left), refl, omega arith))
+    (λ c. omega arith)
+    (λ c κs. tt)
+    (λ c. omega arith)
+    (λ c. omega arith)
     loop-again
-    same-length-3
-    returns-3
-    same-length-4
+    (λ c. c .before .loop .inv .1)
+    (λ c. sym (c .before .loop .inv .0) ∙ at-end _ _ _ _ (c .if3 .taken))
+    (λ c. c .before .before .before .step .kept .0 ∙ c .before .before .before .before .before .before .before .before .loop .inv .1)
     returns-4)

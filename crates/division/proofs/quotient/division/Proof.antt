@@ -6,9 +6,6 @@ use Rattle.division.specs.DivisionLaws.{Parts, quotient-by-zero, quotien
 use Rattle.division.proofs.quotient.division.Statement.{statement}
 use Rattle.division.proofs.quotient.division.Tie as tie
 
-returns : tie.Need-returns
-returns c = sym (quotient-by-zero _ _ (omega (arith, exponent-is _ (c .before .before .unpack .ensures))))
-
 returns-2 : tie.Need-returns-2
 returns-2 c =
     let a = exponent-is _ (c .before .before .unpack2 .ensures) in
@@ -21,12 +18,6 @@ dividend c = parts-of _ (c .before .before .unpack2 .ensures) (omega arith) (ome
 
 divisor : (c : tie.Else2) → Parts (c .before .before .before .before .before .before .args .y) (c .before .before .before .before .before .unpack .result)
 divisor c = parts-of _ (c .before .before .before .before .before .unpack .ensures) (omega arith) (omega arith)
-
-digits-requires : tie.Need-digits-requires
-digits-requires c κs = let n = c .before .before in omega (arith, dividend n, divisor n)
-
-add-sign : tie.Need-add-sign
-add-sign c = let n = c .before .before .before .before .before in omega (arith, dividend n, divisor n)
 
 cast-close : tie.Need-cast-close
 cast-close c =
@@ -46,7 +37,7 @@ division-spec =
     tie.close
     (tie.spec
     (λ c κs. tt)
-    returns
+    (λ c. sym (quotient-by-zero _ _ (omega (arith, exponent-is _ (c .before .before .unpack .ensures)))))
     (λ c κs. tt)
     returns-2
     (λ c. omega arith)
@@ -54,8 +45,8 @@ division-spec =
     (λ c. omega arith)
     (λ c. omega arith)
     (λ c. omega arith)
-    digits-requires
-    add-sign
+    (λ c κs. let n = c .before .before in omega (arith, dividend n, divisor n))
+    (λ c. let n = c .before .before .before .before .before in omega (arith, dividend n, divisor n))
     (λ c. omega arith)
     (λ c. omega arith)
     cast-close

@@ -8,9 +8,6 @@ use Rattle.ending.specs.declared.answer.Answer.the-variants.{Done}
 use Rattle.ending.proofs.closing.close.Statement.{statement}
 use Rattle.ending.proofs.closing.close.Tie as tie
 
-returns-3 : tie.Need-returns-3
-returns-3 c = ap (λ (w : ℕ). Done (number (c .before .before .before .args .e - 256) w)) (c .full-word .ensures) ∙ sym (closed-stored _ _ (omega arith) (omega arith))
-
 pub close-spec : {M : Type 1} → statement M
 close-spec =
     tie.close
@@ -22,4 +19,4 @@ close-spec =
     (λ c. omega arith)
     (λ c. omega arith)
     (λ c κs. tt)
-    returns-3)
+    (λ c. ap (λ (w : ℕ). Done (number (c .before .before .before .args .e - 256) w)) (c .full-word .ensures) ∙ sym (closed-stored _ _ (omega arith) (omega arith))))

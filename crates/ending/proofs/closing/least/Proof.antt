@@ -9,11 +9,5 @@ use Rattle.ending.specs.declared.answer.Answer.the-variants.{Done}
 use Rattle.ending.proofs.closing.least.Statement.{statement}
 use Rattle.ending.proofs.closing.least.Tie as tie
 
-returns : tie.Need-returns
-returns c t d = sym (closed-below-zero _ (loose t _ d) (omega arith))
-
-returns-2 : tie.Need-returns-2
-returns-2 c t d = ap (λ (w : ℕ). Done (number 1 w)) (c .full-word .ensures) ∙ sym (closed-smallest _ (loose t _ d) (omega arith))
-
 pub least-spec : {M : Type 1} → statement M
-least-spec = tie.close (tie.spec returns (λ c κs. tt) returns-2)
+least-spec = tie.close (tie.spec (λ c t d. sym (closed-below-zero _ (loose t _ d) (omega arith))) (λ c κs. tt) (λ c t d. ap (λ (w : ℕ). Done (number 1 w)) (c .full-word .ensures) ∙ sym (closed-smallest _ (loose t _ d) (omega arith))))

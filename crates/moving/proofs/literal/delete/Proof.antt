@@ -6,16 +6,13 @@ use Rattle.literals.specs.MoveLaws.{delete-lacking, delete-done}
 use Rattle.moving.proofs.literal.delete.Statement.{statement}
 use Rattle.moving.proofs.literal.delete.Tie as tie
 
-returns : tie.Need-returns
-returns c = let t = c .before in delete-lacking _ _ (sym (t .before .lacks .ensures) ∙ t .if1 .taken) _ (c .refusal .ensures)
-
 pub delete-spec : {M : Type 1} → statement M
 delete-spec =
     tie.close
     (tie.spec
     (λ c κs. tt)
     (λ c κs. tt)
-    returns
+    (λ c. let t = c .before in delete-lacking _ _ (sym (t .before .lacks .ensures) ∙ t .if1 .taken) _ (c .refusal .ensures))
     (λ c. omega (arith, has _ _ _ (sym (c .before .lacks .ensures) ∙ c .if1 .left)))
     (λ c. omega (arith, has _ _ _ (sym (c .before .lacks .ensures) ∙ c .if1 .left)))
     (λ c. delete-done _ _ (sym (c .before .lacks .ensures) ∙ c .if1 .left)))

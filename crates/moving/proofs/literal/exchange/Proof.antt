@@ -12,9 +12,6 @@ use Rattle.literals.specs.MoveLaws.{exchange-lacking, exchange-done}
 use Rattle.moving.proofs.literal.exchange.Statement.{statement}
 use Rattle.moving.proofs.literal.exchange.Tie as tie
 
-returns : tie.Need-returns
-returns c = let t = c .before .before in exchange-lacking _ _ (sym (t .before .lacks .ensures) ∙ t .if1 .taken) _ (c .refusal .ensures)
-
 returns-2 : tie.Need-returns-2
 returns-2 c =
     let p = c .before .before .before .before .before .before in
@@ -34,7 +31,7 @@ exchange-spec =
     (λ c κs. tt)
     (λ c κs. tt)
     (λ c. search needs)
-    returns
+    (λ c. let t = c .before .before in exchange-lacking _ _ (sym (t .before .lacks .ensures) ∙ t .if1 .taken) _ (c .refusal .ensures))
     (λ c κs. tt)
     (λ c κs. tt)
     (λ c κs. tt)

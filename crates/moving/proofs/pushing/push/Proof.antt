@@ -21,9 +21,6 @@ room : (c : tie.Else1) → Room (c .before .before .before .before .before .befo
 room c =
     push-room _ _ _ (c .before .before .before .wrapping-add-usize .ensures) (omega arith) (sym (c .before .lacks .ensures) ∙ c .if1 .left)
 
-returns-2 : tie.Need-returns-2
-returns-2 c = let r = room (c .before) in push-not-five _ _ _ (r .limits) (r .fits) (c .if2 .taken)
-
 returns-3 : tie.Need-returns-3
 returns-3 c =
     let f = c .before .before in
@@ -55,7 +52,7 @@ push-spec =
     (λ c. search needs)
     returns
     (λ c. search needs)
-    returns-2
+    (λ c. let r = room (c .before) in push-not-five _ _ _ (r .limits) (r .fits) (c .if2 .taken))
     (λ c κs. tt)
     (λ c. search needs)
     returns-3

@@ -12,8 +12,5 @@ swapped-halves b h p q =
     let is : b + h * 256 ≡ wordOf 0 (h / 256) (h % 256) b = omega arith in
     ap swappedOf is ∙ swapped-word b (h % 256) (h / 256) 0 p (omega arith) (omega arith) (omega arith)
 
-returns : tie.Need-returns
-returns c = c .swapped .ensures ∙ swapped-halves _ _ (omega arith) (omega arith)
-
 pub halves-word-spec : {M : Type 1} → statement M
-halves-word-spec = tie.close (tie.spec (λ c. omega arith) (λ c. omega arith) (λ c κs. tt) returns)
+halves-word-spec = tie.close (tie.spec (λ c. omega arith) (λ c. omega arith) (λ c κs. tt) (λ c. c .swapped .ensures ∙ swapped-halves _ _ (omega arith) (omega arith)))

@@ -6,8 +6,5 @@ use Rattle.number.specs.Number.{halves}
 use Rattle.number.proofs.parts.short_word.Statement.{statement}
 use Rattle.number.proofs.parts.short_word.Tie as tie
 
-returns-2 : tie.Need-returns-2
-returns-2 c = simp (ne-eqb _ _ (c .before .before .if1 .left)) (c .halves-word2 .ensures ∙ ap (λ (h : ℕ). halves 255 h .word) (c .before .complement .ensures))
-
 pub short-word-spec : {M : Type 1} → statement M
-short-word-spec = tie.close (tie.spec (λ c κs. tt) (λ c. simp (eq-eqb _ _ (c .before .if1 .taken)) (c .halves-word .ensures)) (λ c κs. tt) (λ c κs. tt) returns-2)
+short-word-spec = tie.close (tie.spec (λ c κs. tt) (λ c. simp (eq-eqb _ _ (c .before .if1 .taken)) (c .halves-word .ensures)) (λ c κs. tt) (λ c κs. tt) (λ c. simp (ne-eqb _ _ (c .before .before .if1 .left)) (c .halves-word2 .ensures ∙ ap (λ (h : ℕ). halves 255 h .word) (c .before .complement .ensures))))

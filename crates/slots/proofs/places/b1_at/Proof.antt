@@ -11,9 +11,6 @@ use Rattle.slots.proofs.places.b1_at.Tie as tie
 abbrev b1 : Number → ℕ
 b1 n = n .b1
 
-returns : tie.Need-returns
-returns c = sym (ap b1 (none-at _ _ _ (sym (c .before .lacks .ensures) ∙ c .if1 .taken)))
-
 returns-2 : tie.Need-returns-2
 unfolding numberIn
 returns-2 c = let e = c .before in sym (ap b1 (number-at _ _ _ (sym (e .before .lacks .ensures) ∙ e .if1 .left)))
@@ -24,7 +21,7 @@ b1-at-spec =
     (tie.spec
     (λ c. omega arith)
     (λ c κs. tt)
-    returns
+    (λ c. sym (ap b1 (none-at _ _ _ (sym (c .before .lacks .ensures) ∙ c .if1 .taken))))
     (λ c. omega (arith, has _ _ _ (sym (c .before .lacks .ensures) ∙ c .if1 .left)))
     (λ c. omega (arith, has _ _ _ (sym (c .before .lacks .ensures) ∙ c .if1 .left)))
     (λ c. let e = c .before in omega (arith, has _ _ _ (sym (e .before .lacks .ensures) ∙ e .if1 .left)))

@@ -6,9 +6,6 @@ use Rattle.slots.specs.ReachLaws.{has, put-nowhere, put-there}
 use Rattle.slots.proofs.places.put_at.Statement.{statement}
 use Rattle.slots.proofs.places.put_at.Tie as tie
 
-returns : tie.Need-returns
-returns c = sym (put-nowhere _ _ _ _ (sym (c .before .lacks .ensures) ∙ c .if1 .taken))
-
 returns-2 : tie.Need-returns-2
 returns-2 c =
     let p = c .before .before in
@@ -22,7 +19,7 @@ put-at-spec =
     (λ c. omega arith)
     (λ c κs. tt)
     (λ c. search needs)
-    returns
+    (λ c. sym (put-nowhere _ _ _ _ (sym (c .before .lacks .ensures) ∙ c .if1 .taken)))
     (λ c. let e = c .before in omega (arith, has _ _ _ (sym (e .before .lacks .ensures) ∙ e .if1 .left)))
     (λ c κs. let e = c .before in omega (arith, has _ _ _ (sym (e .before .lacks .ensures) ∙ e .if1 .left)))
     (λ c. search needs)

@@ -12,9 +12,6 @@ use Rattle.slots.proofs.places.word_at.Tie as tie
 abbrev word : Number → ℕ
 word n = n .word
 
-returns : tie.Need-returns
-returns c = sym (ap word (none-at _ _ _ (sym (c .before .lacks .ensures) ∙ c .if1 .taken)))
-
 returns-2 : tie.Need-returns-2
 returns-2 c =
     let e = c .before .before in
@@ -29,7 +26,7 @@ word-at-spec =
     (tie.spec
     (λ c. omega arith)
     (λ c κs. tt)
-    returns
+    (λ c. sym (ap word (none-at _ _ _ (sym (c .before .lacks .ensures) ∙ c .if1 .taken))))
     (λ c. omega (arith, has _ _ _ (sym (c .before .lacks .ensures) ∙ c .if1 .left)))
     (λ c κs. omega (arith, has _ _ _ (sym (c .before .lacks .ensures) ∙ c .if1 .left)))
     (λ c κs. tt)

@@ -7,20 +7,14 @@ use Rattle.truncation.specs.FloorLaws.{int-small, int-large}
 use Rattle.truncation.proofs.whole.int.Statement.{statement}
 use Rattle.truncation.proofs.whole.int.Tie as tie
 
-returns : tie.Need-returns
-returns c = int-positive _ (omega arith) ∙ ap Done (sym (c .truncate .ensures))
-
-returns-2 : tie.Need-returns-2
-returns-2 c = int-odd _ (omega arith) (omega arith) (omega arith) (sym (c .before .low-half .ensures) ∙ c .if3 .taken)
-
 pub int-spec : {M : Type 1} → statement M
 int-spec =
     tie.close
     (tie.spec
     (λ c κs. tt)
-    returns
+    (λ c. int-positive _ (omega arith) ∙ ap Done (sym (c .truncate .ensures)))
     (λ c κs. tt)
-    returns-2
+    (λ c. int-odd _ (omega arith) (omega arith) (omega arith) (sym (c .before .low-half .ensures) ∙ c .if3 .taken))
     (λ c. int-short _ (omega arith) (omega arith) (omega arith) (omega arith))
     (λ c. int-small _ (omega arith) (omega arith) (omega arith) (omega arith))
     (λ c κs. omega arith)
