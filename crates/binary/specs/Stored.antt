@@ -1,6 +1,6 @@
 -- What the code answers and leaves once it has an answer of two numbers. No public contract cites this file.
 use Prim.Native.Nat.{ℕ, _-_}
-use mathlib.Core.Path.{_≡_, refl, sym, _∙_, ap}
+use mathlib.Core.Path.{_≡_, refl, _∙_, ap}
 use mathlib.Core.Bool.{false, _||_}
 use mathlib.Core.List.{List}
 use Rattle.number.specs.declared.Number.{Number}

@@ -6,7 +6,6 @@ use mathlib.Core.List.{List}
 use native.Mathlib.Omega.{arith}
 use borrow.Author.Tests.{eq-eqb, ne-eqb, ltb-true}
 use lib.Dec.{ltb, eqb}
-use Rattle.display.specs.declared.shown.Cell.{Cell}
 use Rattle.display.specs.declared.shown.Cell.the-variants.{Refused, Blank}
 use Rattle.slots.specs.Slots.{top}
 use Rattle.slots.specs.Reports.{overLimits}

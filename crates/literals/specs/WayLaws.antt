@@ -1,6 +1,6 @@
 -- Each way out of a literal's code, as a case of `operateOf`: what the code has found, and what the operation then answers and leaves.
 use Prim.Native.Nat.{ℕ, suc, _+_, _-_, _≤_, _<_}
-use mathlib.Core.Path.{_≡_, refl, sym, _∙_, ap}
+use mathlib.Core.Path.{_≡_, refl, sym, _∙_, ap, ap₂}
 use mathlib.Core.Bool.{Bool, true, false, cond, _||_}
 use mathlib.Core.List.{List}
 use native.Mathlib.Omega.{arith}
@@ -8,7 +8,7 @@ use borrow.Author.Tests.{ltb-true}
 use lib.Dec.{ltb}
 use lib.ListN.{getD}
 use Rattle.number.specs.declared.Number.{Number}
-use Rattle.number.specs.Number.{malformed}
+use Rattle.number.specs.Number.{number, malformed}
 use Rattle.ending.specs.declared.answer.Answer.{Answer}
 use Rattle.ending.specs.declared.answer.Answer.the-variants.{Done, TooBig}
 use Rattle.slots.specs.Slots.{putIn, top, lower}
@@ -72,6 +72,11 @@ module _ (s : List ℕ) (d l : ℕ) (o : Operation) (t n : ℕ) (r : rowOf l ≡
           operate-done s d l (report-0 s d l reached (simp operation f) (simp operation m) (simp operation b)) ∙ simp (operation, takes-is, leaves-is)
 
 -- a literal that looks at the top
+pub one-lacking : (s : List ℕ) (d l : ℕ) (f : Number → Answer) → rowOf l ≡ row l (one f) 1 1 → lacking s d 1 ≡ true → (q : ℕ) → q ≡ refusalOf s d 1
+    → operateOf s d l ≡ (outcome q d, s)
+unfolding notInTable
+one-lacking s d l f r = way-lacking s d l (one f) 1 1 r refl
+
 module _ (s : List ℕ) (d l : ℕ) (f : Number → Answer) (r : rowOf l ≡ row l (one f) 1 1) (a : lacking s d 1 ≡ false) where
   is-top : numberAt s d 0 ≡ top s d
   is-top = number-at s d 0 a
@@ -81,7 +86,7 @@ module _ (s : List ℕ) (d l : ℕ) (f : Number → Answer) (r : rowOf l ≡ row
   one-malformed m = let h = has s d 1 a in way-malformed s d l (one f) 1 1 r refl (h .0) (h .1) refl (ap malformed (sym is-top) ∙ m)
 
   -- and is not too big
-  pub one-done : (n : Number) → malformed (numberAt s d 0) ≡ false → f (numberAt s d 0) ≡ Done n → operateOf s d l ≡ (outcome 0 d, putAt s d 0 n)
+  one-done : (n : Number) → malformed (numberAt s d 0) ≡ false → f (numberAt s d 0) ≡ Done n → operateOf s d l ≡ (outcome 0 d, putAt s d 0 n)
   unfolding notInTable noRoomFor malformedOperand tooBig isTooBig bytesAfter stored
   one-done n m b =
       let h = has s d 1 a in
@@ -89,6 +94,11 @@ module _ (s : List ℕ) (d l : ℕ) (f : Number → Answer) (r : rowOf l ≡ row
       let same : d - 1 + 1 ≡ d = omega (arith, h) in
       way-done s d l (one f) 1 1 r refl (h .0) (h .1) refl (ap malformed (sym is-top) ∙ m) (simp is)
       ∙ simp (is, put-there s d 0 n a) (ap (λ (e : ℕ). (outcome 0 e, putIn s (d - 1) n)) same)
+
+  -- by the parts that the code has read
+  pub one-put : {b w : ℕ} {n : Number} {s′ : List ℕ} → b ≡ numberAt s d 0 .b1 → w ≡ numberAt s d 0 .word → malformed (numberAt s d 0) ≡ false → f (number b w) ≡ Done n
+      → s′ ≡ putAt s d 0 n → operateOf s d l ≡ (outcome 0 d, s′)
+  one-put {n = n} i j m e p = one-done n m (ap f (sym (ap₂ number i j)) ∙ e) ∙ ap (λ (t : List ℕ). (outcome 0 d, t)) (sym p)
 
   -- and leaves it as it is
   pub one-kept : ((k : ℕ) → getD s k 0 < 256) → malformed (numberAt s d 0) ≡ false → f (numberAt s d 0) ≡ Done (numberAt s d 0) → operateOf s d l ≡ (outcome 0 d, s)
@@ -98,6 +108,11 @@ module _ (s : List ℕ) (d l : ℕ) (f : Number → Answer) (r : rowOf l ≡ row
       ∙ ap (λ (t : List ℕ). (outcome 0 d, t)) (put-there s d 0 (numberAt s d 0) a ∙ ap (putIn s (d - 1)) is-top ∙ number-kept s (d - 1) (omega (arith, h)) b)
 
 -- a literal that looks at the two on top
+pub two-lacking : (s : List ℕ) (d l : ℕ) (f : Number → Number → Answer) → rowOf l ≡ row l (two f) 2 1 → lacking s d 2 ≡ true → (q : ℕ) → q ≡ refusalOf s d 2
+    → operateOf s d l ≡ (outcome q d, s)
+unfolding notInTable
+two-lacking s d l f r = way-lacking s d l (two f) 2 1 r refl
+
 module _ (s : List ℕ) (d l : ℕ) (f : Number → Number → Answer) (r : rowOf l ≡ row l (two f) 2 1) (a : lacking s d 2 ≡ false) where
   is-lower : numberAt s d 1 ≡ lower s d
   is-lower = number-at s d 1 a

@@ -1,15 +1,12 @@
 -- `divide` meets its contract: each way out is a case of the operation.
 use borrow.Author.Needs.{needs}
-use Prim.Native.Nat.{ℕ}
 use mathlib.Core.Path.{_≡_, refl, sym, _∙_, ap, ap₂}
-use mathlib.Core.Bool.{true, false, _||_}
-use Rattle.number.specs.declared.Number.{Number}
-use Rattle.number.specs.Number.{number, malformed}
+use mathlib.Core.Bool.{false}
+use Rattle.number.specs.Number.{number}
 use Rattle.division.specs.Division.{quotientOf}
 use Rattle.slots.specs.Reach.{lacking}
 use Rattle.literals.specs.Literals.{two, row, rowOf}
-use Rattle.literals.specs.Reports.{notInTable}
-use Rattle.literals.specs.WayLaws.{way-lacking, two-malformed}
+use Rattle.literals.specs.WayLaws.{two-lacking, two-malformed}
 use Rattle.binary.specs.Stored.{storedOf, two-stored}
 use Rattle.binary.proofs.quotient.divide.Statement.{statement}
 use Rattle.binary.proofs.quotient.divide.Tie as tie
@@ -17,10 +14,6 @@ use Rattle.binary.proofs.quotient.divide.Tie as tie
 line : rowOf 5 ≡ row 5 (two quotientOf) 2 1
 unfolding rowOf
 line = refl
-
-returns : tie.Need-returns
-unfolding notInTable
-returns c = let t = c .before .before in way-lacking _ _ _ (two quotientOf) 2 1 line refl (sym (t .before .lacks .ensures) ∙ t .if1 .taken) _ (c .refusal .ensures)
 
 -- both numbers are there
 there : (c : tie.Else1) → lacking (c .before .before .before .before .before .args .stack .now) (c .before .before .before .before .before .args .depth .now) 2 ≡ false
@@ -49,7 +42,7 @@ divide-spec =
     (λ c κs. tt)
     (λ c κs. tt)
     (λ c. search needs)
-    returns
+    (λ c. let t = c .before .before in two-lacking _ _ _ quotientOf line (sym (t .before .lacks .ensures) ∙ t .if1 .taken) _ (c .refusal .ensures))
     (λ c κs. tt)
     (λ c. search needs)
     (λ c. two-malformed _ _ _ quotientOf line (there (c .before .before .before)) (simp (sym (c .before .malformed-at .ensures) ∙ c .if2 .taken)))

@@ -4,7 +4,6 @@ use Prim.Native.Nat.{ℕ, _+_, _-_}
 use mathlib.Core.Path.{_≡_, sym, _∙_, ap, ap₂}
 use mathlib.Core.List.{List}
 use native.Mathlib.Omega.{arith}
-use Rattle.number.specs.Number.{number}
 use Rattle.slots.specs.Reach.{putAt}
 use Rattle.slots.specs.ReachLaws.{has}
 use Rattle.binary.specs.Stored.{storedOf}

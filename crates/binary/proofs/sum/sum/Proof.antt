@@ -1,23 +1,15 @@
 -- `sum` meets its contract: each way out is a case of the operation.
 use borrow.Author.Needs.{needs}
-use Prim.Native.Nat.{ℕ}
 use mathlib.Core.Path.{_≡_, refl, sym, _∙_, ap, ap₂}
-use mathlib.Core.Bool.{true, false, _||_}
-use Rattle.number.specs.declared.Number.{Number}
-use Rattle.number.specs.Number.{number, malformed}
+use mathlib.Core.Bool.{false}
+use Rattle.number.specs.Number.{number}
 use Rattle.addition.specs.Addition.{sumOf}
 use Rattle.slots.specs.Reach.{lacking, refusalOf}
-use Rattle.literals.specs.Literals.{two, row, rowOf}
-use Rattle.literals.specs.Reports.{notInTable}
-use Rattle.literals.specs.WayLaws.{way-lacking, two-malformed}
+use Rattle.literals.specs.WayLaws.{two-lacking, two-malformed}
 use Rattle.binary.specs.Stored.{storedOf, two-stored}
 use Rattle.binary.specs.Sum.{secondOf, totalOf, sum-line}
 use Rattle.binary.proofs.sum.sum.Statement.{statement}
 use Rattle.binary.proofs.sum.sum.Tie as tie
-
-returns : tie.Need-returns
-unfolding notInTable
-returns c = let t = c .before .before in way-lacking _ _ _ (two (totalOf (c .before .before .before .before .before .before .before .args .less))) 2 1 (sum-line (c .before .before .before .before .before .before .before .args .less)) refl (ap (lacking _ _) (sym (c .before .before .before .before .before .before .before .pre .0)) ∙ sym (t .before .lacks .ensures) ∙ t .if1 .taken) _ (c .refusal .ensures ∙ ap (refusalOf _ _) (c .before .before .before .before .before .before .before .pre .0))
 
 -- both numbers are there
 there : (c : tie.Else1) → lacking (c .before .before .before .before .before .args .stack .now) (c .before .before .before .before .before .args .depth .now) 2 ≡ false
@@ -49,7 +41,7 @@ sum-spec =
     (λ c κs. tt)
     (λ c κs. tt)
     (λ c. search needs)
-    returns
+    (λ c. let t = c .before .before in two-lacking _ _ _ (totalOf (c .before .before .before .before .before .before .before .args .less)) (sum-line (c .before .before .before .before .before .before .before .args .less)) (ap (lacking _ _) (sym (c .before .before .before .before .before .before .before .pre .0)) ∙ sym (t .before .lacks .ensures) ∙ t .if1 .taken) _ (c .refusal .ensures ∙ ap (refusalOf _ _) (c .before .before .before .before .before .before .before .pre .0)))
     (λ c κs. tt)
     (λ c. search needs)
     returns-2

@@ -3,8 +3,7 @@ use Prim.Native.Nat.{ℕ, _*_}
 use mathlib.Core.Path.{_∙_, ap}
 use mathlib.Core.List.{List}
 use native.Mathlib.Omega.{arith}
-use borrow.Author.Needs.{needs}
-use lib.ListN.{length, set, length-set}
+use lib.ListN.{set, length-set}
 use Rattle.slots.specs.SlotLaws.{putFour, put-swapped}
 use Rattle.slots.proofs.places.put_in.Statement.{statement}
 use Rattle.slots.proofs.places.put_in.Tie as tie
