@@ -1,23 +1,28 @@
 -- The view, a law a case.
 use Prim.Native.Nat.{ℕ, _-_, _*_}
-use mathlib.Core.Path.{_≡_}
-use mathlib.Core.Bool.{true, false}
+use mathlib.Core.Path.{_≡_, refl}
+use mathlib.Core.Bool.{Bool, true, false, cond, _||_}
 use mathlib.Core.List.{List, []}
+use native.Mathlib.Omega.{arith}
+use lib.Dec.{eqb, ltb}
 use lib.ListN.{take, drop}
-use borrow.Author.Tests.{eq-eqb, ne-eqb}
+use borrow.Author.Tests.{eq-eqb, ne-eqb, ltb-true}
 use Rattle.slots.specs.Slots.{slot}
 use Rattle.slots.specs.Reports.{overLimits}
+use Rattle.slots.specs.LimitLaws.{within}
+use Rattle.slots.specs.Reach.{lacking}
+use Rattle.slots.specs.ReachLaws.{has}
 use Rattle.slots.specs.View.{viewOf}
 
 module _ (s : List ℕ) (d : ℕ) where
-  pub view-over : overLimits s d ≡ true → viewOf s d ≡ []
-  unfolding viewOf
-  view-over h = simp h
+  pub view-empty : lacking s d 1 ≡ true → viewOf s d ≡ []
+  unfolding viewOf lacking
+  view-empty h = go (overLimits s d) h
+    where
+      go : (b : Bool) → b || ltb d 1 ≡ true → cond (b || eqb d 0) [] (slot s (d - 1)) ≡ []
+      go true k = refl
+      go false k = simp (eq-eqb d 0 (omega (arith, ltb-true d 1 k)))
 
-  pub view-empty : overLimits s d ≡ false → d ≡ 0 → viewOf s d ≡ []
-  unfolding viewOf
-  view-empty w h = simp (w, eq-eqb d 0 h)
-
-  pub view-top : overLimits s d ≡ false → (d ≡ 0 → ⊥) → viewOf s d ≡ take 5 (drop (5 * (d - 1)) s)
+  pub view-top : lacking s d 1 ≡ false → viewOf s d ≡ take 5 (drop (5 * (d - 1)) s)
   unfolding viewOf slot
-  view-top w h = simp (w, ne-eqb d 0 h)
+  view-top h = let e = has s d 1 h in simp (within s d (e .0), ne-eqb d 0 (omega (arith, e)))

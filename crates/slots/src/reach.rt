@@ -20,7 +20,8 @@ pub fn lacks(stack: &[u8], depth: usize, takes: usize) -> bool
     (stack.len() as u32) < 5 * (depth as u32)
 }
 
-// Which report it is; 4 where neither 1 nor 2 is.
+// Which report it is; 4 where neither 1 nor 2 is. It asks anew and in its own way (`over_limits`): with the same tests as above, the compiler would
+// compute them once for both, and branch on none.
 pub fn refusal(stack: &[u8], depth: usize, takes: usize) -> u8
     ensures { λ r. ⌜ r ≡ refusalOf (now (stack .entry)) depth takes ⌝ }
 {

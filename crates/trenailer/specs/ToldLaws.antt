@@ -5,12 +5,10 @@ use mathlib.Core.Bool.{Bool, true, false}
 use mathlib.Core.List.{List, [], _∷_}
 use native.Mathlib.Omega.{arith}
 use lib.ListN.{length, take, drop, length-take, length-drop}
-use borrow.Author.Tests.{eqb-true, eqb-false}
-use lib.Dec.{eqb}
-use Rattle.slots.specs.Reports.{overLimits}
-use Rattle.slots.specs.LimitLaws.{within-of}
+use Rattle.slots.specs.Reach.{lacking}
+use Rattle.slots.specs.ReachLaws.{has}
 use Rattle.slots.specs.View.{viewOf}
-use Rattle.slots.specs.ViewLaws.{view-over, view-empty, view-top}
+use Rattle.slots.specs.ViewLaws.{view-empty, view-top}
 use Rattle.trenailer.specs.Told.{startOf, Part}
 
 nothing : (xs : List ℕ) → length xs ≡ 0 → xs ≡ []
@@ -29,18 +27,12 @@ pub record Seen (s : List ℕ) (d : ℕ) : Type 0 where
   pub bytes : viewOf s d ≡ take 5 (drop (5 * (d - 1)) s)
 
 module _ (s : List ℕ) (d : ℕ) (h : length (viewOf s d) ≡ 0 → ⊥) where
-  seen-within : overLimits s d ≡ false → (b : Bool) → eqb d 0 ≡ b → Seen s d
-  seen-within w true e = absurd (h (ap length (view-empty s d w (eqb-true d 0 e))))
-  seen-within w false e =
-      let some : d ≡ 0 → ⊥ = eqb-false d 0 e in
-      record { some = some; fits = omega (arith, within-of s d w); bytes = view-top s d w some }
-
-  seen-by : (b : Bool) → overLimits s d ≡ b → Seen s d
-  seen-by true w = absurd (h (ap length (view-over s d w)))
-  seen-by false w = seen-within w (eqb d 0) refl
-
   pub seen : Seen s d
-  seen = seen-by (overLimits s d) refl
+  seen = go (lacking s d 1) refl
+    where
+      go : (b : Bool) → lacking s d 1 ≡ b → Seen s d
+      go true l = absurd (h (ap length (view-empty s d l)))
+      go false l = let e = has s d 1 l in record { some = omega (arith, e); fits = e .0 .deep; bytes = view-top s d l }
 
   pub part-seen : (was : ℕ) → Part s d was 5 (5 * (d - 1))
   part-seen was =
