@@ -38,7 +38,7 @@ pub fn end(line: &[u8]) -> usize
 }
 
 // The first place before `end` that holds no blank.
-pub fn start(line: &[u8], end: usize) -> usize
+pub(crate) fn start(line: &[u8], end: usize) -> usize
     requires { ⌜ end ≤ length (now line) ⌝ }
     ensures { λ r. ⌜ (slice r end (now (line .entry)) ≡ started (take end (now (line .entry)))) × (r ≤ end) ⌝ }
 {

@@ -61,7 +61,11 @@ pub fn int(x: Number) -> Number
     let e = x.b1;
     let word = x.word;
     if word < 2147483648 {
-        return truncate(Number { b1: e, word });
+        let t = truncate(Number { b1: e, word });
+        return Number {
+            b1: t.b1,
+            word: t.word,
+        };
     }
     if e == 0 {
         if number::low_half(word) == 0 {
@@ -80,7 +84,11 @@ pub fn int(x: Number) -> Number
         };
     }
     if e < 160 {
-        return floor_of(Number { b1: e, word });
+        let t = floor_of(Number { b1: e, word });
+        return Number {
+            b1: t.b1,
+            word: t.word,
+        };
     }
     Number { b1: e, word }
 }
