@@ -1,66 +1,90 @@
--- The text of a line: the line without its carriage return, and without the blanks before and after. Space is 32 in ASCII, tab 9, the carriage
--- return 13.
+-- The text of a line: what stands before its comment, without the blanks around it.
 use Prim.Native.Nat.{ℕ, zero, suc, _+_, _-_, _<_, _≤_}
-use mathlib.Core.Path.{_≡_, sym}
-use mathlib.Core.Bool.{Bool, true, false, cond}
+use mathlib.Core.Path.{_≡_}
+use mathlib.Core.Bool.{Bool, true, false, cond, _||_}
 use mathlib.Core.List.{List, [], _∷_}
 use native.Mathlib.Omega.{arith}
 use native.Mathlib.Numerals.{add-one}
 use lib.Dec.{eqb}
-use lib.ListN.{length, take, drop, getD}
-use lib.Seq.{length-take-le, take-add, drop-at, slice, slice-empty, slice-cons}
+use lib.ListN.{length, take, drop, getD, length-drop, drop-of-length-le}
+use lib.Seq.{drop-cons, take-all}
+use borrow.Author.Tests.{eq-eqb, ne-eqb}
+use Rattle.sheet.specs.Begins.{begins}
 
--- a space or a tab, and in the line's last place a carriage return
-unfoldable pub blank : Bool → ℕ → Bool
-blank last c = cond (eqb c 32) true (cond (eqb c 9) true (cond last (eqb c 13) false))
+-- a space or a tab
+unfoldable pub blank : ℕ → Bool
+blank c = eqb c 32 || eqb c 9
 
--- where the first n bytes of a line end without the blanks after them
-unfoldable pub endOf : List ℕ → ℕ → ℕ
-endOf s zero = 0
-endOf s (suc n) = cond (blank (eqb (suc n) (length s)) (getD s n 0)) (endOf s n) (suc n)
+-- a byte-order mark before the first line is no part of it
+abbrev pub byteOrderMark : List ℕ
+byteOrderMark = 0xEF ∷ 0xBB ∷ 0xBF ∷ []
+
+unfoldable pub unmarked : ℕ → List ℕ → List ℕ
+unmarked number s = cond (eqb number 1) (cond (begins byteOrderMark s) (drop 3 s) s) s
+
+-- a comment begins with `#`, 35 in ASCII, and goes to the line's end: its place, looked for from place n on
+unfoldable pub commentFrom : ℕ → List ℕ → ℕ
+commentFrom n [] = n
+commentFrom n (c ∷ cs) = cond (eqb c 35) n (commentFrom (n + 1) cs)
+
+-- what stands before it
+abbrev pub toldOf : ℕ → List ℕ → List ℕ
+toldOf number s = take (commentFrom 0 (unmarked number s)) (unmarked number s)
 
 -- a list without the blanks before it
 unfoldable pub started : List ℕ → List ℕ
 started [] = []
-started (c ∷ cs) = cond (blank false c) (started cs) (c ∷ cs)
+started (c ∷ cs) = cond (blank c) (started cs) (c ∷ cs)
 
-unfoldable pub textOf : List ℕ → List ℕ
-textOf s = started (take (endOf s (length s)) s)
+-- where the first n bytes of a list end without the blanks after them
+unfoldable pub endOf : List ℕ → ℕ → ℕ
+endOf s zero = 0
+endOf s (suc n) = cond (blank (getD s n 0)) (endOf s n) (suc n)
 
--- where they end, a law a case
+abbrev pub trimmed : List ℕ → List ℕ
+trimmed s = started (take (endOf s (length s)) s)
+
+-- each of them, a law a case, for a list of which i bytes are passed
+module _ (s : List ℕ) (i : ℕ) where
+  pub comment-none : length s ≤ i → commentFrom i (drop i s) ≡ i
+  unfolding commentFrom
+  comment-none h = rw (drop-of-length-le s h)
+
+  pub start-none : length s ≤ i → started (drop i s) ≡ drop i s
+  unfolding started
+  start-none h = rw (drop-of-length-le s h)
+
+  module _ (h : i < length s) where
+    pub comment-here : getD s i 0 ≡ 35 → commentFrom i (drop i s) ≡ i
+    unfolding commentFrom
+    comment-here e = rw (drop-cons s i 0 h) (simp (eq-eqb _ _ e))
+
+    pub comment-later : (getD s i 0 ≡ 35 → ⊥) → commentFrom i (drop i s) ≡ commentFrom (i + 1) (drop (i + 1) s)
+    unfolding commentFrom
+    comment-later e = rw (drop-cons s i 0 h) (simp (ne-eqb _ _ e, add-one i))
+
+    pub start-here : blank (getD s i 0) ≡ false → started (drop i s) ≡ drop i s
+    unfolding started
+    start-here b = rw (drop-cons s i 0 h) (simp b)
+
+    pub start-later : blank (getD s i 0) ≡ true → started (drop i s) ≡ started (drop (i + 1) s)
+    unfolding started
+    start-later b = rw (drop-cons s i 0 h, add-one i) (simp b)
+
+-- where it ends, for a list of which n bytes are left
 module _ (s : List ℕ) (n : ℕ) where
   pub end-none : n ≡ 0 → endOf s n ≡ n
   unfolding endOf
   end-none h = rw h
 
-  pub end-here : (m : ℕ) → blank (eqb n (length s)) (getD s m 0) ≡ false → n ≡ suc m → endOf s n ≡ n
+  pub end-here : (m : ℕ) → blank (getD s m 0) ≡ false → n ≡ suc m → endOf s n ≡ n
   unfolding endOf
-  end-here m t h = rw h (simp (rw h at t))
+  end-here m t h = rw h (simp t)
 
-  pub end-before : (m : ℕ) → blank (eqb n (length s)) (getD s m 0) ≡ true → n ≡ suc m → endOf s n ≡ endOf s m
+  pub end-before : (m : ℕ) → blank (getD s m 0) ≡ true → n ≡ suc m → endOf s n ≡ endOf s m
   unfolding endOf
-  end-before m t h = rw h (simp (rw h at t))
+  end-before m t h = rw h (simp t)
 
--- a part of a slice, as the code takes it
-pub part : (s : List ℕ) (i e : ℕ) → i ≤ e → e ≤ length s → take (e - i) (drop i s) ≡ slice i e s
-part s i e h g =
-    let all : i + (e - i) ≡ e = omega arith in
-    let it : drop i (take (i + (e - i)) s) ≡ take (e - i) (drop i s) = rw (take-add i (e - i) s) (drop-at (take i s) _ i (length-take-le i s (omega arith))) in
-    sym (rw all at it)
-
--- where the bytes from i to e start, a law a case
-module _ (s : List ℕ) (i e : ℕ) where
-  pub start-over : e ≤ i → i ≤ e → started (slice i e s) ≡ slice i e s
-  unfolding started
-  start-over h g =
-      let same : i ≡ e = omega arith in
-      rw (same, slice-empty e s)
-
-  module _ (h : i < e) (g : e ≤ length s) where
-    pub start-here : blank false (getD s i 0) ≡ false → started (slice i e s) ≡ slice i e s
-    unfolding started
-    start-here b = rw (slice-cons i e s 0 h g) (simp b)
-
-    pub start-later : blank false (getD s i 0) ≡ true → started (slice i e s) ≡ started (slice (i + 1) e s)
-    unfolding started
-    start-later b = rw (slice-cons i e s 0 h g, add-one) (simp b)
+-- a list from a place on, as the code takes it
+pub rest : (s : List ℕ) (i : ℕ) → take (length s - i) (drop i s) ≡ drop i s
+rest s i = take-all (length s - i) (drop i s) (omega (arith, length-drop i s))

@@ -1,24 +1,92 @@
--- What a line says, without its line feed: a number of five bytes in hexadecimal, to be pushed; or a literal, in decimal or by name. `#` is 35
--- in ASCII.
-use Prim.Native.Nat.{ℕ}
-use mathlib.Core.Bool.{cond}
-use mathlib.Core.List.{List}
-use lib.Dec.{eqb, ltb}
-use lib.ListN.{length, getD}
+-- What a line says, by what stands before its comment.
+use Prim.Native.Nat.{ℕ, _+_, _<_, _≤_}
+use mathlib.Core.Path.{_≡_}
+use mathlib.Core.Bool.{Bool, true, false, cond, _&&_}
+use mathlib.Core.List.{List, [], _∷_}
+use native.Mathlib.Omega.{arith}
+use native.Mathlib.Numerals.{add-one}
+use lib.Dec.{eqb, ltb, leb}
+use lib.ListN.{length, drop, getD, drop-of-length-le, List·getD-eq-default}
+use lib.Seq.{drop-cons}
+use borrow.Author.Tests.{lt-ltb, le-ltb, lt-leb, le-leb}
+use Rattle.number.specs.Number.{shortOf}
+use Rattle.text.specs.Ascii.{ascii}
 use Rattle.sheet.specs.declared.meaning.Line.{Line}
-use Rattle.sheet.specs.declared.meaning.Line.the-variants.{Nothing, Literal, Unreadable}
-use Rattle.sheet.specs.Blanks.{textOf}
+use Rattle.sheet.specs.declared.meaning.Line.the-variants.{Nothing, Push, Literal, Unreadable}
+use Rattle.sheet.specs.declared.meaning.Fault.the-variants.{LongLine, BareNumber, BadPush, BadLiteral}
+use Rattle.sheet.specs.Begins.{begins}
+use Rattle.sheet.specs.Blanks.{blank, started, trimmed}
+use Rattle.sheet.specs.Decimal.{decimalIn}
 use Rattle.sheet.specs.Literals.{literalOf}
 use Rattle.sheet.specs.Numbers.{numberFrom}
 
--- Blank lines and lines that begin with `#` are passed over.
+-- what follows a word and a blank; nothing where the text begins otherwise
+unfoldable pub after : List ℕ → List ℕ → List ℕ
+after word s = cond (begins word s && blank (getD s (length word) 0)) (started (drop (length word) s)) []
+
+module _ (word s : List ℕ) where
+  pub after-word : begins word s ≡ true → blank (getD s (length word) 0) ≡ true → after word s ≡ started (drop (length word) s)
+  unfolding after
+  after-word e b = simp (e, b)
+
+  pub after-other : begins word s ≡ false → after word s ≡ []
+  unfolding after
+  after-other e = simp e
+
+  pub after-joined : begins word s ≡ true → blank (getD s (length word) 0) ≡ false → after word s ≡ []
+  unfolding after
+  after-joined e b = simp (e, b)
+
+  pub after-alone : begins word s ≡ true → length s ≤ length word → after word s ≡ []
+  unfolding blank
+  after-alone e h = after-joined e (rw (List·getD-eq-default s 0 h))
+
+-- a whole number from -65,535 to 65,535, as the short number with b5 = 0; `-` is 45 in ASCII
+unfoldable pub shortPushed : ℕ → ℕ → Line
+shortPushed s v = cond (ltb 65535 v) (Unreadable BadPush) (Push (shortOf (cond (eqb v 0) 0 s) v))
+
+unfoldable pub pushed : List ℕ → Line
+pushed s = cond (eqb (getD s 0 0) 45) (shortPushed 1 (decimalIn 65535 (drop 1 s))) (shortPushed 0 (decimalIn 65535 s))
+
+-- a literal by its number
+unfoldable pub numbered : List ℕ → Line
+numbered s = cond (ltb 255 (decimalIn 255 s)) (Unreadable BadLiteral) (Literal (decimalIn 255 s))
+
+-- a number alone: digits and + , - . / are 43 to 57 in ASCII
+unfoldable pub bare : List ℕ → Bool
+bare [] = true
+bare (c ∷ cs) = cond (leb 43 c && ltb c 58) (bare cs) false
+
+-- a law a case, for a text of which i bytes are passed
+module _ (s : List ℕ) (i : ℕ) where
+  pub bare-done : length s ≤ i → bare (drop i s) ≡ true
+  unfolding bare
+  bare-done h = rw (drop-of-length-le s h)
+
+  module _ (h : i < length s) where
+    pub bare-below : getD s i 0 < 43 → bare (drop i s) ≡ false
+    unfolding bare
+    bare-below g = rw (drop-cons s i 0 h) (simp (lt-leb _ _ g))
+
+    pub bare-above : 57 < getD s i 0 → bare (drop i s) ≡ false
+    unfolding bare
+    bare-above g = rw (drop-cons s i 0 h) (simp (le-leb 43 (getD s i 0) (omega arith), le-ltb (getD s i 0) 58 (omega arith)))
+
+    pub bare-next : 43 ≤ getD s i 0 → getD s i 0 ≤ 57 → bare (drop i s) ≡ bare (drop (i + 1) s)
+    unfolding bare
+    bare-next g k = rw (drop-cons s i 0 h, add-one i) (simp (le-leb _ _ g, lt-ltb (getD s i 0) 58 (omega arith)))
+
+-- one word, or five bytes
+unfoldable pub plain : List ℕ → Line
+plain s = cond (ltb (literalOf s) 256) (Literal (literalOf s)) (cond (bare s) (Unreadable BareNumber) (numberFrom 0 0 s))
+
 unfoldable pub said : List ℕ → Line
 said s =
     cond (eqb (length s) 0) Nothing
-    (cond (eqb (getD s 0 0) 35) Nothing
-    (cond (ltb (literalOf s) 256) (Literal (literalOf s))
-    (numberFrom 0 0 s)))
+    (cond (ltb 0 (length (after (ascii "push") s))) (pushed (after (ascii "push") s))
+    (cond (ltb 0 (length (after (ascii "literal") s))) (numbered (after (ascii "literal") s))
+    (plain s)))
 
--- a line over 256 bytes can't be read, unless it is a comment
+-- what stands before the comment has at most 65,535 bytes
 unfoldable pub lineOf : List ℕ → Line
-lineOf s = cond (ltb 256 (length s)) (cond (eqb (getD s 0 0) 35) Nothing Unreadable) (said (textOf s))
+lineOf told = cond (ltb 65535 (length told)) (Unreadable LongLine) (said (trimmed told))

@@ -1,34 +1,63 @@
-// The text of a line: where it starts and where it ends.
+// The text of a line: what stands before its comment, without the blanks around it.
+use crate::begins::begins;
 ghost use mathlib.Core.Path.{_≡_};
-ghost use mathlib.Core.Bool.{false};
 ghost use Prim.Native.Nat.{_≤_};
-ghost use lib.ListN.{length, take};
-ghost use lib.Seq.{slice};
-ghost use Rattle.sheet.specs.Blanks.{blank, started, endOf};
+ghost use lib.ListN.{length, drop};
+ghost use Rattle.sheet.specs.Blanks.{blank, unmarked, commentFrom, toldOf, started, endOf};
+ghost use Rattle.sheet.specs.Blanks.{trimmed as Blanks·trimmed};
 
-pub fn is_blank(last: bool, c: u8) -> bool
-    ensures { λ r. ⌜ r ≡ blank last c ⌝ }
+pub(crate) fn is_blank(c: u8) -> bool
+    ensures { λ r. ⌜ r ≡ blank c ⌝ }
 {
     if c == b' ' {
         return true;
     }
-    if c == b'\t' {
-        return true;
+    c == b'\t'
+}
+
+// Without the byte-order mark that the first line may begin with.
+fn unmarked(line: &[u8], number: u64) -> &[u8]
+    ensures { λ r. ⌜ now r ≡ unmarked number (now (line .entry)) ⌝ }
+{
+    if number != 1 {
+        return line;
     }
-    if last {
-        return c == b'\r';
+    if begins(line, b"\xEF\xBB\xBF") {
+        return &line[3..];
     }
-    false
+    line
+}
+
+// The place of the comment, or the line's end.
+fn comment(line: &[u8]) -> usize
+    ensures { λ r. ⌜ (r ≡ commentFrom 0 (now (line .entry))) × (r ≤ length (now (line .entry))) ⌝ }
+{
+    let n = line.len();
+    let mut i = 0;
+    while i < n {
+        if line[i] == b'#' {
+            return i;
+        }
+        i += 1;
+    }
+    i
+}
+
+// What stands before the comment of the line with this number.
+pub fn told(line: &[u8], number: u64) -> &[u8]
+    ensures { λ r. ⌜ now r ≡ toldOf number (now (line .entry)) ⌝ }
+{
+    let all = unmarked(line, number);
+    &all[..comment(all)]
 }
 
 // The place after the last byte that is no blank.
-pub fn end(line: &[u8]) -> usize
-    ensures { λ r. ⌜ (r ≡ endOf (now (line .entry)) (length (now (line .entry)))) × (r ≤ length (now (line .entry))) ⌝ }
+fn end(text: &[u8]) -> usize
+    ensures { λ r. ⌜ (r ≡ endOf (now (text .entry)) (length (now (text .entry)))) × (r ≤ length (now (text .entry))) ⌝ }
 {
-    let all = line.len();
-    let mut n = all;
+    let mut n = text.len();
     while 0 < n {
-        if is_blank(n == all, line[n - 1]) {
+        if is_blank(text[n - 1]) {
             n -= 1;
         } else {
             return n;
@@ -37,18 +66,26 @@ pub fn end(line: &[u8]) -> usize
     n
 }
 
-// The first place before `end` that holds no blank.
-pub(crate) fn start(line: &[u8], end: usize) -> usize
-    requires { ⌜ end ≤ length (now line) ⌝ }
-    ensures { λ r. ⌜ (slice r end (now (line .entry)) ≡ started (take end (now (line .entry)))) × (r ≤ end) ⌝ }
+// A text from a place on, without the blanks there.
+pub(crate) fn started(text: &[u8], from: usize) -> &[u8]
+    requires { ⌜ from ≤ length (now text) ⌝ }
+    ensures { λ r. ⌜ now r ≡ started (drop from (now (text .entry))) ⌝ }
 {
-    let mut i = 0;
-    while i < end {
-        if is_blank(false, line[i]) {
+    let n = text.len();
+    let mut i = from;
+    while i < n {
+        if is_blank(text[i]) {
             i += 1;
         } else {
-            return i;
+            return &text[i..];
         }
     }
-    i
+    &text[i..]
+}
+
+pub fn trimmed(text: &[u8]) -> &[u8]
+    ensures { λ r. ⌜ now r ≡ Blanks·trimmed (now (text .entry)) ⌝ }
+{
+    let e = end(text);
+    started(&text[..e], 0)
 }

@@ -1,12 +1,14 @@
-// A sheet of steps for the calculator, one to a line: what a line says, and the line that answers it.
-mod answers;
+// A sheet of steps for the calculator, one to a line: what a line says.
+mod begins;
 mod blanks;
+mod decimal;
 mod literals;
 mod meaning;
 mod numbers;
 mod reading;
 
-pub use answers::put_answer;
-pub use answers::put_unreadable;
+pub use blanks::told;
+pub use blanks::trimmed;
+pub use meaning::Fault;
 pub use meaning::Line;
 pub use reading::line_of;

@@ -1,57 +1,32 @@
-// A literal, in decimal or by its name in the ROM's listing; 256 and more stand for none.
+// A literal by its name in the ROM's listing; 256 stands for none.
+use crate::begins::begins;
 ghost use mathlib.Core.Path.{_≡_};
-ghost use Rattle.sheet.specs.Literals.{decimalIn, ifNamed, laterOf, literalOf};
-
-fn decimal_in(text: &[u8]) -> u16
-    ensures { λ r. ⌜ r ≡ decimalIn (now (text .entry)) ⌝ }
-{
-    let n = text.len();
-    if 3 < n {
-        return 256;
-    }
-    let mut v = 0;
-    let mut i = 0;
-    while i < n {
-        let d = text::value_of(text[i]) as u16;
-        if 9 < d {
-            return 256;
-        }
-        v = 10 * (v % 100) + d;
-        i += 1;
-    }
-    v
-}
+ghost use Rattle.sheet.specs.Literals.{ifNamed, laterOf, literalOf};
 
 // The literal where the text is its name, and else what the text may be besides.
 fn if_named(text: &[u8], name: &[u8], literal: u16, other: u16) -> u16
     ensures { λ r. ⌜ r ≡ ifNamed (now (text .entry)) (now (name .entry)) literal other ⌝ }
 {
-    let n = name.len();
-    if text.len() != n {
+    if text.len() != name.len() {
         return other;
     }
-    let mut i = 0;
-    while i < n {
-        if text[i] != name[i] {
-            return other;
-        }
-        i += 1;
+    if begins(text, name) {
+        return literal;
     }
-    literal
+    other
 }
 
 fn later(text: &[u8]) -> u16
     ensures { λ r. ⌜ r ≡ laterOf (now (text .entry)) ⌝ }
 {
-    let other = decimal_in(text);
-    let r61 = if_named(text, b"re-stack", 61, other);
+    let r61 = if_named(text, b"re-stack", 61, 256);
     let r58 = if_named(text, b"truncate", 58, r61);
     let r49 = if_named(text, b"duplicate", 49, r58);
     let r39 = if_named(text, b"int", 39, r49);
     if_named(text, b"negate", 27, r39)
 }
 
-pub fn literal_of(text: &[u8]) -> u16
+pub(crate) fn literal_of(text: &[u8]) -> u16
     ensures { λ r. ⌜ r ≡ literalOf (now (text .entry)) ⌝ }
 {
     let r27 = later(text);

@@ -6,5 +6,17 @@ pub enum Line {
     Nothing,
     Push(Number),
     Literal(u8),
-    Unreadable,
+    Unreadable(Fault),
+}
+
+// Why a line can't be read.
+pub enum Fault {
+    LongLine,
+    // A number alone: it may be meant to be pushed, or for a literal.
+    BareNumber,
+    // No whole number in range after `push`, or after `literal`.
+    BadPush,
+    BadLiteral,
+    // Anything else.
+    NoStep,
 }

@@ -1,39 +1,126 @@
-// What a line says.
+// What a line says, by what stands before its comment.
+use crate::begins::begins;
 use crate::blanks;
+use crate::decimal::decimal_in;
 use crate::literals;
+use crate::meaning::Fault;
 use crate::meaning::Line;
 use crate::numbers;
+use number::Number;
 ghost use mathlib.Core.Path.{_≡_};
-ghost use Rattle.sheet.specs.Line.{said, lineOf};
+ghost use Prim.Native.Nat.{_<_};
+ghost use lib.ListN.{length};
+ghost use Rattle.sheet.specs.Line.{after, shortPushed, pushed, numbered, bare, plain, said, lineOf};
 
-// The text of a line.
+// What follows a word and a blank.
+fn after<'a>(text: &'a [u8], word: &[u8]) -> &'a [u8]
+    ensures { λ r. ⌜ now r ≡ after (now (word .entry)) (now (text .entry)) ⌝ }
+{
+    let n = word.len();
+    if begins(text, word) {
+        if n < text.len() {
+            if blanks::is_blank(text[n]) {
+                return blanks::started(text, n);
+            }
+        }
+    }
+    &text[0..0]
+}
+
+// A magnitude over 65,535 stands for none. Zero has no sign.
+fn short_pushed(sign: u8, v: u32) -> Line
+    ensures { λ r. ⌜ r ≡ shortPushed sign v ⌝ }
+{
+    if 65535 < v {
+        return Line::Unreadable(Fault::BadPush);
+    }
+    if v == 0 {
+        return Line::Push(Number {
+            word: number::short_word(0, v as u16),
+            b1: 0,
+        });
+    }
+    Line::Push(Number {
+        word: number::short_word(sign, v as u16),
+        b1: 0,
+    })
+}
+
+fn pushed(text: &[u8]) -> Line
+    requires { ⌜ 0 < length (now text) ⌝ }
+    ensures { λ r. ⌜ r ≡ pushed (now (text .entry)) ⌝ }
+{
+    if text[0] == b'-' {
+        return short_pushed(1, decimal_in(65535, &text[1..]));
+    }
+    short_pushed(0, decimal_in(65535, text))
+}
+
+fn numbered(text: &[u8]) -> Line
+    ensures { λ r. ⌜ r ≡ numbered (now (text .entry)) ⌝ }
+{
+    let v = decimal_in(255, text);
+    if 255 < v {
+        return Line::Unreadable(Fault::BadLiteral);
+    }
+    Line::Literal(v as u8)
+}
+
+// Digits and + , - . / alone.
+fn is_bare(text: &[u8]) -> bool
+    ensures { λ r. ⌜ r ≡ bare (now (text .entry)) ⌝ }
+{
+    let n = text.len();
+    let mut i = 0;
+    while i < n {
+        let c = text[i];
+        if c < b'+' {
+            return false;
+        }
+        if b'9' < c {
+            return false;
+        }
+        i += 1;
+    }
+    true
+}
+
+// One word, or five bytes.
+fn plain(text: &[u8]) -> Line
+    ensures { λ r. ⌜ r ≡ plain (now (text .entry)) ⌝ }
+{
+    let literal = literals::literal_of(text);
+    if literal < 256 {
+        return Line::Literal(literal as u8);
+    }
+    if is_bare(text) {
+        return Line::Unreadable(Fault::BareNumber);
+    }
+    numbers::number_of(text)
+}
+
 fn said(text: &[u8]) -> Line
     ensures { λ r. ⌜ r ≡ said (now (text .entry)) ⌝ }
 {
     if text.len() == 0 {
         return Line::Nothing;
     }
-    if text[0] == b'#' {
-        return Line::Nothing;
+    let to_push = after(text, b"push");
+    if 0 < to_push.len() {
+        return pushed(to_push);
     }
-    let literal = literals::literal_of(text);
-    if literal < 256 {
-        return Line::Literal(literal as u8);
+    let number = after(text, b"literal");
+    if 0 < number.len() {
+        return numbered(number);
     }
-    numbers::number_of(text)
+    plain(text)
 }
 
-// A line without its line feed.
-pub fn line_of(line: &[u8]) -> Line
-    ensures { λ r. ⌜ r ≡ lineOf (now (line .entry)) ⌝ }
+pub fn line_of(told: &[u8]) -> Line
+    ensures { λ r. ⌜ r ≡ lineOf (now (told .entry)) ⌝ }
 {
-    if 256 < line.len() {
-        if line[0] == b'#' {
-            return Line::Nothing;
-        }
-        return Line::Unreadable;
+    if 65535 < told.len() {
+        return Line::Unreadable(Fault::LongLine);
     }
-    let end = blanks::end(line);
-    let start = blanks::start(line, end);
-    said(&line[start..end])
+    said(blanks::trimmed(told))
 }

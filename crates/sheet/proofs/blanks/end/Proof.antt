@@ -1,4 +1,4 @@
--- `end` meets its contract: the invariant is that the line ends where what is left of it does.
+-- `end` meets its contract: the invariant is that the text ends where what is left of it does.
 use mathlib.Core.Path.{_≡_, refl, sym, _∙_}
 use Prim.Native.Nat.{_≤_}
 use native.Mathlib.Omega.{arith}
@@ -8,14 +8,14 @@ use Rattle.sheet.proofs.blanks.end.Statement.{statement}
 use Rattle.sheet.proofs.blanks.end.Tie as tie
 
 abbrev Inv-loop : tie.InvT-loop
-Inv-loop line all n₀ n = (endOf line n ≡ endOf line (length line)) × (n ≤ length line)
+Inv-loop text n₀ n = (endOf text n ≡ endOf text (length text)) × (n ≤ length text)
 
 pub end-spec : {M : Type 1} → statement M
 end-spec =
     tie.close
     (tie.spec
     Inv-loop
-    (λ line all n₀ n. n)
+    (λ text n₀ n. n)
     (λ c. (refl, omega arith))
     (λ c. omega arith)
     (λ c. omega arith)

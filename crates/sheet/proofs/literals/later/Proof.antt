@@ -9,7 +9,6 @@ unfolding laterOf
 later-spec =
     tie.close
     (tie.spec
-    (λ c κs. tt)
     (λ c. refl)
     (λ c κs. tt)
     (λ c. refl)
@@ -20,4 +19,4 @@ later-spec =
     (λ c κs. tt)
     (λ c. refl)
     (λ c κs. tt)
-    (λ c. simp (c .if-named5 .ensures, c .before .before .if-named4 .ensures, c .before .before .before .before .if-named3 .ensures, c .before .before .before .before .before .before .if-named2 .ensures, c .before .before .before .before .before .before .before .before .if-named .ensures, c .before .before .before .before .before .before .before .before .before .before .decimal-in .ensures)))
+    (λ c. simp (c .if-named5 .ensures, c .before .before .if-named4 .ensures, c .before .before .before .before .if-named3 .ensures, c .before .before .before .before .before .before .if-named2 .ensures, c .before .before .before .before .before .before .before .before .if-named .ensures)))

@@ -1,4 +1,5 @@
 -- `said` meets its contract: the tests are the definition's.
+use mathlib.Core.Path.{refl, sym, _∙_}
 use native.Mathlib.Omega.{arith}
 use borrow.Author.Tests.{lt-ltb, le-ltb, eq-eqb, ne-eqb}
 use Rattle.sheet.specs.Line.{said}
@@ -11,10 +12,13 @@ said-spec =
     tie.close
     (tie.spec
     (λ c. simp (eq-eqb _ _ (c .if1 .taken)))
-    (λ c. omega arith)
-    (λ c. simp (ne-eqb _ _ (c .before .before .if1 .left), eq-eqb _ _ (c .if2 .taken)))
+    (λ c. refl)
     (λ c κs. tt)
-    (λ c. omega arith)
-    (λ c. simp (ne-eqb _ _ (c .before .before .before .before .if1 .left), ne-eqb _ _ (c .before .before .if2 .left), ← c .before .literal-of .ensures, lt-ltb (c .before .literal-of .result) 256 (omega arith)))
+    (λ c κs. c .if2 .taken)
+    (λ c. simp (ne-eqb _ _ (c .before .before .before .before .if1 .left), ← c .before .before .after .ensures, lt-ltb 0 _ (c .before .if2 .taken), c .pushed .ensures))
+    (λ c. refl)
     (λ c κs. tt)
-    (λ c. simp (ne-eqb _ _ (c .before .before .before .before .before .if1 .left), ne-eqb _ _ (c .before .before .before .if2 .left), ← c .before .before .literal-of .ensures, le-ltb (c .before .before .literal-of .result) 256 (omega arith), c .number-of .ensures)))
+    (λ c κs. tt)
+    (λ c. simp (ne-eqb _ _ (c .before .before .before .before .before .before .before .if1 .left), ← c .before .before .before .before .before .after .ensures, le-ltb 0 _ (c .before .before .before .before .if2 .left), ← c .before .before .after2 .ensures, lt-ltb 0 _ (c .before .if3 .taken), c .numbered .ensures))
+    (λ c κs. tt)
+    (λ c. simp (ne-eqb _ _ (c .before .before .before .before .before .before .before .if1 .left), ← c .before .before .before .before .before .after .ensures, le-ltb 0 _ (c .before .before .before .before .if2 .left), ← c .before .before .after2 .ensures, le-ltb 0 _ (c .before .if3 .left), c .plain .ensures)))
