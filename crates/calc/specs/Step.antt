@@ -6,9 +6,10 @@ use Rattle.slots.specs.Slots.{bytesOf}
 use Rattle.slots.specs.Push.{pushOf}
 use Rattle.literals.specs.Operate.{operateOf}
 use Rattle.sheet.specs.declared.meaning.Line.{Line}
-use Rattle.sheet.specs.declared.meaning.Line.the-variants.{Push, Literal}
+use Rattle.sheet.specs.declared.meaning.Line.the-variants.{Nothing, Push, Literal, Unreadable}
 
 unfoldable pub stepOf : List ℕ → ℕ → Line → Outcome × List ℕ
+stepOf s d Nothing = (record { report = 0; depth = d }, s)
 stepOf s d (Push n) = pushOf s d (bytesOf n)
 stepOf s d (Literal l) = operateOf s d l
-stepOf s d _ = (record { report = 0; depth = d }, s)
+stepOf s d (Unreadable f) = (record { report = 0; depth = d }, s)

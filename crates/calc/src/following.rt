@@ -1,75 +1,115 @@
 // Reading the sheet and writing the answers. Input comes in parts of any size; what is kept between them is the line so far.
-use crate::steps;
+use crate::answering;
 use libc::STDERR_FILENO;
 use libc::STDIN_FILENO;
 use libc::STDOUT_FILENO;
-use sheet::Line;
 ghost use Prim.Native.Nat.{_<_};
 
-// Where the program stands: the stack's depth, how many bytes of the line are held, and how many lines were read before it.
+// Where the program stands: the stack's depth, how many bytes of the line are held, and the line's number.
 struct Place {
     depth: usize,
     held: usize,
-    lines: u64,
-    // False once the input has ended or an answer could not be written.
+    number: u64,
+    // After a carriage return: a line feed then ends no line of its own.
+    returned: bool,
+    // False once a line can't be read or an answer could not be written: no step is done any more.
     going: bool,
+    // False once the input has ended.
+    open: bool,
 }
 
-fn answer(report: u8, stack: &[u8], depth: usize) -> bool {
-    let mut out = [0u8; 64];
-    let n = sheet::put_answer(&mut out, report, depth, calculator::view(stack, depth));
-    io::write_all(STDOUT_FILENO, text::first(&out, n))
+// Whether all of it could be written; standard error says so if not.
+fn write(bytes: &[u8]) -> bool {
+    if io::write_all(STDOUT_FILENO, bytes) {
+        return true;
+    }
+    io::write_all(
+        STDERR_FILENO,
+        b"calc: standard output cannot be written; nothing more was done\n",
+    );
+    false
 }
 
-fn complain(number: u64) -> bool {
-    let mut out = [0u8; 64];
-    let n = sheet::put_unreadable(&mut out, number);
-    io::write_all(STDOUT_FILENO, text::first(&out, n))
+// The number of the next line: of one that could not be read, its own, since it is typed again.
+fn next_number(number: u64, complained: usize) -> u64 {
+    if complained == 0 {
+        return std::num::wrapping_add_u64(number, 1);
+    }
+    number
 }
 
 // A whole line.
-fn end_line(stack: &mut [u8], line: &[u8], at: Place) -> Place {
-    let lines = std::num::wrapping_add_u64(at.lines, 1);
-    let said = sheet::line_of(text::first(line, at.held));
-    let done = steps::step(stack, at.depth, said);
-    let going = match said {
-        Line::Nothing => true,
-        Line::Unreadable => complain(lines),
-        Line::Push(_) => answer(done.report, stack, done.depth),
-        Line::Literal(_) => answer(done.report, stack, done.depth),
-    };
+fn end_line(stack: &mut [u8], line: &[u8], at: Place, terminal: bool, returned: bool) -> Place {
+    let mut out = [0u8; 64];
+    let mut err = [0u8; 256];
+    let done = answering::answer_line(
+        stack,
+        at.depth,
+        at.going,
+        text::first(line, at.held),
+        at.number,
+        terminal,
+        &mut out,
+        &mut err,
+    );
+    let written = write(text::first(&out, done.out));
+    io::write_all(STDERR_FILENO, text::first(&err, done.err));
     Place {
         depth: done.depth,
         held: 0,
-        lines,
-        going,
+        number: next_number(at.number, done.err),
+        returned,
+        going: both(done.going, written),
+        open: at.open,
     }
 }
 
-fn take_byte(stack: &mut [u8], line: &mut [u8], at: Place, byte: u8) -> Place {
+fn both(a: bool, b: bool) -> bool {
+    if a {
+        return b;
+    }
+    false
+}
+
+fn take_byte(stack: &mut [u8], line: &mut [u8], at: Place, terminal: bool, byte: u8) -> Place {
+    if byte == b'\r' {
+        return end_line(stack, line, at, terminal, true);
+    }
     if byte == b'\n' {
-        return end_line(stack, line, at);
+        if at.returned {
+            return Place {
+                depth: at.depth,
+                held: at.held,
+                number: at.number,
+                returned: false,
+                going: at.going,
+                open: at.open,
+            };
+        }
+        return end_line(stack, line, at, terminal, false);
     }
     Place {
         depth: at.depth,
         held: text::put(line, at.held, byte),
-        lines: at.lines,
+        number: at.number,
+        returned: false,
         going: at.going,
+        open: at.open,
     }
 }
 
-fn take_bytes(stack: &mut [u8], line: &mut [u8], at: Place, bytes: &[u8]) -> Place {
+fn take_bytes(stack: &mut [u8], line: &mut [u8], at: Place, terminal: bool, bytes: &[u8]) -> Place {
     let mut now_at = at;
     let mut i = 0;
     while i < bytes.len() {
-        now_at = take_byte(stack, line, now_at, bytes[i]);
+        now_at = take_byte(stack, line, now_at, terminal, bytes[i]);
         i += 1;
     }
     now_at
 }
 
-// One read.
-fn read_some(stack: &mut [u8], line: &mut [u8], at: Place) -> Place {
+// One read. What is held of a line when the input can't be read is no line.
+fn read_some(stack: &mut [u8], line: &mut [u8], at: Place, terminal: bool) -> Place {
     let mut bytes = io::buffer();
     let got = libc::read(STDIN_FILENO, &mut bytes);
     if got < 0 {
@@ -79,12 +119,14 @@ fn read_some(stack: &mut [u8], line: &mut [u8], at: Place) -> Place {
         return Place {
             depth: at.depth,
             held: at.held,
-            lines: at.lines,
-            going: false,
+            number: at.number,
+            returned: at.returned,
+            going: both(at.going, got == 0),
+            open: false,
         };
     }
     let n = io::count(got, &bytes);
-    take_bytes(stack, line, at, &bytes[..n])
+    take_bytes(stack, line, at, terminal, &bytes[..n])
 }
 
 // A proved loop has to end, and nothing says that the input does: it counts down from a number that no run uses up.
@@ -99,19 +141,22 @@ fn turns_left(turns: u64, going: bool) -> u64
 }
 
 pub fn follow(stack: &mut [u8], line: &mut [u8]) {
+    let terminal = libc::isatty(STDIN_FILENO) == 1;
     let mut at = Place {
         depth: 0,
         held: 0,
-        lines: 0,
+        number: 1,
+        returned: false,
         going: true,
+        open: true,
     };
     let mut turns = u64::MAX;
     while turns > 0 {
-        at = read_some(stack, line, at);
-        turns = turns_left(turns, at.going);
+        at = read_some(stack, line, at, terminal);
+        turns = turns_left(turns, both(at.open, at.going));
     }
     // A last line with no line feed.
     if 0 < at.held {
-        end_line(stack, line, at);
+        end_line(stack, line, at, terminal, false);
     }
 }

@@ -6,15 +6,15 @@ use Rattle.calc.proofs.following.follow.Statement.{statement}
 use Rattle.calc.proofs.following.follow.Tie as tie
 
 abbrev Inv-loop : tie.InvT-loop
-Inv-loop stack₀ line₀ at₀ turns₀ stack line at turns = (length stack ≡ length stack₀) × (length line ≡ length line₀)
+Inv-loop stack₀ line₀ terminal at₀ turns₀ stack line at turns = (length stack ≡ length stack₀) × (length line ≡ length line₀)
 
 abbrev μ-loop : tie.MeasureT-loop
-μ-loop stack₀ line₀ at₀ turns₀ stack line at turns = turns
+μ-loop stack₀ line₀ terminal at₀ turns₀ stack line at turns = turns
 
 loop-again : tie.Need-loop-again Inv-loop μ-loop
 loop-again c =
-    let read = c .before .before .before .before .before .read-some in
-    let l = c .before .before .before .before .before .before .before .before .before .loop in
+    let read = c .before .before .before .before .before .before .read-some in
+    let l = c .before .before .before .before .before .before .before .before .before .before .loop in
     (read .kept .0 ∙ l .inv .0, read .kept .1 .0 ∙ l .inv .1)
 
 pub follow-spec : {M : Type 1} → statement M
@@ -23,7 +23,9 @@ follow-spec =
     (tie.spec
     Inv-loop
     μ-loop
+    (λ c κs. tt)
     (λ c. (refl, refl))
+    (λ c κs. tt)
     (λ c κs. tt)
     (λ c κs. omega arith)
     (λ c. omega arith)

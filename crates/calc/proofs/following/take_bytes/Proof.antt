@@ -7,10 +7,10 @@ use Rattle.calc.proofs.following.take_bytes.Statement.{statement}
 use Rattle.calc.proofs.following.take_bytes.Tie as tie
 
 abbrev Inv-loop : tie.InvT-loop
-Inv-loop stack₀ line₀ bytes now-at₀ i₀ stack line now-at i = (length stack ≡ length stack₀) × (length line ≡ length line₀)
+Inv-loop stack₀ line₀ terminal bytes now-at₀ i₀ stack line now-at i = (length stack ≡ length stack₀) × (length line ≡ length line₀)
 
 abbrev μ-loop : tie.MeasureT-loop
-μ-loop stack₀ line₀ bytes now-at₀ i₀ stack line now-at i = length bytes - i
+μ-loop stack₀ line₀ terminal bytes now-at₀ i₀ stack line now-at i = length bytes - i
 
 loop-again : tie.Need-loop-again Inv-loop μ-loop
 loop-again c =
