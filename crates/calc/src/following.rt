@@ -1,5 +1,4 @@
 // Reading the sheet and writing the answers. Input comes in parts of any size; what is kept between them is the line so far.
-use crate::answering;
 use libc::STDERR_FILENO;
 use libc::STDIN_FILENO;
 use libc::STDOUT_FILENO;
@@ -42,7 +41,7 @@ fn next_number(number: u64, complained: usize) -> u64 {
 fn end_line(stack: &mut [u8], line: &[u8], at: Place, terminal: bool, returned: bool) -> Place {
     let mut out = [0u8; 64];
     let mut err = [0u8; 256];
-    let done = answering::answer_line(
+    let done = answer::answer_line(
         stack,
         at.depth,
         at.going,

@@ -1,9 +1,5 @@
 // Follows a sheet of steps from standard input, one to a line, and answers each on standard output.
-mod answering;
-mod answers;
-mod complaints;
 mod following;
-mod steps;
 
 fn main() {
     let mut stack = [0u8; 16000];

@@ -11,6 +11,6 @@ numbered-spec =
     tie.close
     (tie.spec
     (λ c κs. omega arith)
-    (λ c. simp (← c .before .decimal-in .ensures, lt-ltb 255 (c .before .decimal-in .result) (c .if1 .taken)))
+    (λ c. simp (← c .before .decimal-in .ensures, lt-ltb 255 (c .before .decimal-in .result) (omega arith)))
     (λ c. omega arith)
-    (λ c. simp (← c .before .decimal-in .ensures, le-ltb 255 (c .before .decimal-in .result) (c .if1 .left))))
+    (λ c. simp (← c .before .decimal-in .ensures, le-ltb 255 (c .before .decimal-in .result) (omega arith))))
