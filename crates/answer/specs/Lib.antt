@@ -1,3 +1,4 @@
 pub mod Step
 pub mod Answer
 pub mod Following
+pub mod Room

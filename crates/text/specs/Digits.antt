@@ -1,12 +1,12 @@
 -- Numbers as text: decimal, and hexadecimal in upper case. ASCII has `0` at 48, `A` at 65 and `a` at 97.
-use Prim.Native.Nat.{ℕ, zero, suc, _+_, _-_, _/_, _%_, _<_, _≤_}
+use Prim.Native.Nat.{ℕ, zero, suc, _+_, _-_, _*_, _/_, _%_, _<_, _≤_}
 use mathlib.Core.Path.{_≡_}
-use mathlib.Core.Bool.{cond}
+use mathlib.Core.Bool.{Bool, true, false, cond}
 use mathlib.Core.List.{List, [], _∷_, _++_}
 use native.Mathlib.Omega.{arith}
 use native.Mathlib.Numerals.{add-one}
 use lib.Dec.{ltb}
-use lib.ListN.{length, drop, getD, drop-of-length-le}
+use lib.ListN.{length, drop, getD, length-append, drop-of-length-le}
 use lib.Seq.{drop-cons}
 use borrow.Author.Tests.{lt-ltb, le-ltb}
 use Rattle.text.specs.Put.{Text, putOf, putsOf, puts-join, puts-then, put-last}
@@ -41,6 +41,16 @@ module _ (t : Text) {u : Text} (k n : ℕ) where
   unfolding digitsOf
   digits-more h g e f = rw (nonzero k h) (simp (le-ltb _ _ g) (puts-then t _ _ e (put-last _ _ f)))
 
+-- so many digits it has at most
+pub digits-length : (k n : ℕ) → length (digitsOf k n) ≤ k + 1
+unfolding digitsOf
+digits-length zero n = omega arith
+digits-length (suc k) n = go (ltb n 10) (digits-length k (n / 10))
+  where
+    go : (t : Bool) → length (digitsOf k (n / 10)) ≤ k + 1 → length (cond t (digitOf n ∷ []) (digitsOf k (n / 10) ++ (digitOf (n % 10) ∷ []))) ≤ suc k + 1
+    go true h = omega arith
+    go false h = omega (arith, length-append (digitsOf k (n / 10)) (digitOf (n % 10) ∷ []))
+
 -- a byte as two digits
 abbrev pub hexOf : ℕ → List ℕ
 hexOf b = digitOf (b / 16) ∷ digitOf (b % 16) ∷ []
@@ -49,6 +59,13 @@ hexOf b = digitOf (b / 16) ∷ digitOf (b % 16) ∷ []
 unfoldable pub eachOf : List ℕ → List ℕ → List ℕ
 eachOf before [] = []
 eachOf before (b ∷ bs) = before ++ hexOf b ++ eachOf before bs
+
+pub each-length : (before bs : List ℕ) → length (eachOf before bs) ≡ (length before + 2) * length bs
+unfolding eachOf
+each-length before [] = omega arith
+each-length before (b ∷ bs) =
+    let rest = each-length before bs in
+    omega (arith, length-append (before ++ hexOf b) (eachOf before bs), length-append before (hexOf b), rest)
 
 -- with nothing between them
 abbrev pub hexesOf : List ℕ → List ℕ

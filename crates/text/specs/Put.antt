@@ -1,12 +1,13 @@
 -- Text put into a buffer that the caller lends, from a place on. What finds no room is left out.
 use Prim.Native.Nat.{ℕ, _+_, _<_, _≤_}
-use mathlib.Core.Path.{_≡_, refl, _∙_, ap}
+use mathlib.Core.Path.{_≡_, refl, sym, _∙_, ap}
 use mathlib.Core.Bool.{cond}
-use mathlib.Core.List.{List, [], _∷_, _++_}
+use mathlib.Core.List.{List, [], _∷_, _++_, append-nil, append-assoc}
+use native.Mathlib.Omega.{arith}
 use native.Mathlib.Numerals.{add-one}
 use lib.Dec.{ltb}
-use lib.ListN.{length, set, drop, getD, drop-of-length-le}
-use lib.Seq.{drop-cons}
+use lib.ListN.{length, set, take, drop, getD, length-set, drop-of-length-le}
+use lib.Seq.{drop-cons, take-suc-set}
 use borrow.Author.Tests.{lt-ltb, le-ltb}
 
 -- the buffer, and the place after what was put last
@@ -50,3 +51,21 @@ puts-done t bs i h = rw (drop-of-length-le bs h)
 pub puts-next : (t u : Text) (bs : List ℕ) (i : ℕ) → i < length bs → u ≡ putOf t (getD bs i 0) → putsOf t (drop i bs) ≡ putsOf u (drop (i + 1) bs)
 unfolding putsOf
 puts-next t u bs i h e = rw (add-one, drop-cons bs i 0, e)
+
+-- what stands before the place
+abbrev pub before : Text → List ℕ
+before t = take (t .1) (t .0)
+
+-- where there is room, what is put is added to it
+puts-after : (out : List ℕ) (at : ℕ) (xs : List ℕ) → at + length xs ≤ length out → before (putsOf (out, at) xs) ≡ take at out ++ xs
+unfolding putsOf
+puts-after out at [] h = sym (append-nil (take at out))
+puts-after out at (x ∷ xs) h =
+    ap (λ (t : Text). before (putsOf t xs)) (sym (put-room out at x (omega arith)))
+    ∙ puts-after (set out at x) (at + 1) xs (omega (arith, length-set out at x))
+    ∙ ap (λ (ys : List ℕ). ys ++ xs) (ap (λ (n : ℕ). take n (set out at x)) (add-one at) ∙ take-suc-set out at x (omega arith))
+    ∙ append-assoc (take at out) (x ∷ []) xs
+
+-- a buffer with room for a text has all of it
+pub puts-whole : (out xs : List ℕ) → length xs ≤ length out → before (putsOf (out, 0) xs) ≡ xs
+puts-whole out xs h = puts-after out 0 xs (omega arith)
