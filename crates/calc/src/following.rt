@@ -41,7 +41,7 @@ fn next_number(number: u64, complained: usize) -> u64 {
 fn end_line(stack: &mut [u8], line: &[u8], at: Place, terminal: bool, returned: bool) -> Place {
     let mut out = [0u8; 64];
     let mut err = [0u8; 256];
-    let done = answer::answer_line(
+    let done = reply::answer_line(
         stack,
         at.depth,
         at.going,

@@ -1,7 +1,7 @@
 pub mod Begins
 pub mod Blanks
 pub mod Decimal
-pub mod Literals
+pub mod Names
 pub mod Numbers
 pub mod Line
 pub mod Worked

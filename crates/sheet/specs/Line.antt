@@ -17,7 +17,7 @@ use Rattle.sheet.specs.declared.meaning.Fault.the-variants.{LongLine, Ba
 use Rattle.sheet.specs.Begins.{begins}
 use Rattle.sheet.specs.Blanks.{blank, started, trimmed}
 use Rattle.sheet.specs.Decimal.{decimalIn}
-use Rattle.sheet.specs.Literals.{literalOf}
+use Rattle.sheet.specs.Names.{literalOf}
 use Rattle.sheet.specs.Numbers.{numberFrom}
 
 -- what follows a word and a blank; nothing where the text begins otherwise

@@ -12,7 +12,7 @@ use Rattle.sheet.specs.declared.meaning.Fault.the-variants.{BareNumber, 
 use Rattle.sheet.specs.Begins.{begins}
 use Rattle.sheet.specs.Blanks.{byteOrderMark, toldOf, unmarked, commentFrom, blank, started, endOf}
 use Rattle.sheet.specs.Decimal.{decimalFrom, decimalIn}
-use Rattle.sheet.specs.Literals.{ifNamed, laterOf, literalOf}
+use Rattle.sheet.specs.Names.{ifNamed, laterOf, literalOf}
 use Rattle.sheet.specs.Numbers.{numberFrom}
 use Rattle.sheet.specs.Line.{lineOf, said, after, pushed, shortPushed, numbered, bare, plain}
 

@@ -2,8 +2,8 @@
 mod begins;
 mod blanks;
 mod decimal;
-mod literals;
 mod meaning;
+mod names;
 mod numbers;
 mod reading;
 

@@ -2,9 +2,9 @@
 use crate::begins::begins;
 use crate::blanks;
 use crate::decimal::decimal_in;
-use crate::literals;
 use crate::meaning::Fault;
 use crate::meaning::Line;
+use crate::names;
 use crate::numbers;
 use number::Number;
 ghost use mathlib.Core.Path.{_≡_};
@@ -89,7 +89,7 @@ fn is_bare(text: &[u8]) -> bool
 fn plain(text: &[u8]) -> Line
     ensures { λ r. ⌜ r ≡ plain (now (text .entry)) ⌝ }
 {
-    let literal = literals::literal_of(text);
+    let literal = names::literal_of(text);
     if literal < 256 {
         return Line::Literal(literal as u8);
     }

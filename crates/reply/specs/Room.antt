@@ -1,0 +1,127 @@
+-- Buffers of 64 and 256 bytes have room for all that a line writes: what stands in them is the answer and the complaint, whole.
+use Prim.Native.Nat.{ℕ, _-_, _*_, _≤_}
+use mathlib.Core.Path.{_≡_}
+use mathlib.Core.Bool.{Bool, true, false, cond, _||_}
+use mathlib.Core.List.{List, [], _∷_, _++_}
+use native.Mathlib.Omega.{arith}
+use lib.Dec.{eqb}
+use lib.ListN.{length, take, drop, length-append, length-take}
+use Rattle.text.specs.Ascii.{ascii}
+use Rattle.text.specs.Put.{before, puts-whole}
+use Rattle.text.specs.Digits.{decimalOf, eachOf, digits-length, each-length}
+use Rattle.slots.specs.Slots.{slot}
+use Rattle.slots.specs.Reports.{overLimits}
+use Rattle.slots.specs.View.{viewOf}
+use Rattle.sheet.specs.Blanks.{toldOf, trimmed}
+use Rattle.sheet.specs.Line.{lineOf}
+use Rattle.sheet.specs.declared.meaning.Line.{Line}
+use Rattle.sheet.specs.declared.meaning.Line.the-variants.{Nothing, Push, Literal, Unreadable}
+use Rattle.sheet.specs.declared.meaning.Fault.{Fault}
+use Rattle.sheet.specs.declared.meaning.Fault.the-variants.{LongLine, BareNumber, BadPush, BadLiteral, NoStep}
+use Rattle.reply.specs.Answer.{topOf, stepAnswer, answerOf, writtenOf, faultOf, shownOf, complaint, complaintOf}
+use Rattle.reply.specs.Step.{stepOf}
+use Rattle.reply.specs.Following.{saidOf, Left, lineLeft}
+
+top-length : (bs : List ℕ) → length bs ≤ 5 → length (topOf bs) ≤ 15
+unfolding topOf
+top-length bs h = go (eqb (length bs) 0)
+  where
+    go : (t : Bool) → length (cond t (ascii " -") (eachOf (32 ∷ []) bs)) ≤ 15
+    go true = omega arith
+    go false = omega (arith, each-length (32 ∷ []) bs)
+
+step-room : (report depth : ℕ) (top : List ℕ) → length top ≤ 5 → length (stepAnswer report depth top) ≤ 64
+step-room report depth top h =
+    let a = decimalOf report in
+    let b = a ++ (32 ∷ []) in
+    let c = b ++ decimalOf depth in
+    let d = c ++ topOf top in
+    omega (
+      arith,
+      length-append a (32 ∷ []),
+      length-append b (decimalOf depth),
+      length-append c (topOf top),
+      length-append d (10 ∷ []),
+      digits-length 19 report,
+      digits-length 19 depth,
+      top-length top h,
+    )
+
+answer-room : (number : ℕ) (said : Line) (report depth : ℕ) (top : List ℕ) → length top ≤ 5 → length (answerOf number said report depth top) ≤ 64
+unfolding answerOf
+answer-room number Nothing report depth top h = omega arith
+answer-room number (Push n) report depth top h = step-room report depth top h
+answer-room number (Literal l) report depth top h = step-room report depth top h
+answer-room number (Unreadable f) report depth top h =
+    let a = ascii "? line " ++ decimalOf number in
+    omega (arith, length-append (ascii "? line ") (decimalOf number), length-append a (10 ∷ []), digits-length 19 number)
+
+shown-length : (bs : List ℕ) → length (shownOf bs) ≡ length bs
+unfolding shownOf
+shown-length [] = omega arith
+shown-length (b ∷ bs) = let rest = shown-length bs in omega arith
+
+fault-length : (f : Fault) → length (faultOf f) ≤ 100
+unfolding faultOf
+fault-length LongLine = omega arith
+fault-length BareNumber = omega arith
+fault-length BadPush = omega arith
+fault-length BadLiteral = omega arith
+fault-length NoStep = omega arith
+
+complaint-length : (first : List ℕ) (number : ℕ) (text : List ℕ) (f : Fault) (last : List ℕ) → length first ≤ 16 → length last ≤ 48
+    → length (complaint first number text f last) ≤ 256
+complaint-length first number text f last h g =
+    let a = first ++ decimalOf number in
+    let b = a ++ ascii ": " in
+    let c = b ++ shownOf (take 60 text) in
+    let d = c ++ ascii ": " in
+    let e = d ++ faultOf f in
+    omega (
+      arith,
+      length-append first (decimalOf number),
+      length-append a (ascii ": "),
+      length-append b (shownOf (take 60 text)),
+      length-append c (ascii ": "),
+      length-append d (faultOf f),
+      length-append e last,
+      digits-length 19 number,
+      shown-length (take 60 text),
+      length-take 60 text,
+      fault-length f,
+    )
+
+said-room : (terminal : Bool) (number : ℕ) (text : List ℕ) (said : Line) → length (saidOf terminal number text said) ≤ 256
+unfolding saidOf complaintOf
+said-room terminal number text Nothing = omega arith
+said-room terminal number text (Push n) = omega arith
+said-room terminal number text (Literal l) = omega arith
+said-room true number text (Unreadable f) = complaint-length (ascii "line ") number text f (ascii "; type it again\n") (omega arith) (omega arith)
+said-room false number text (Unreadable f) =
+    complaint-length (ascii "calc: line ") number text f (ascii "; nothing from this line on was done\n") (omega arith) (omega arith)
+
+view-length : (s : List ℕ) (d : ℕ) → length (viewOf s d) ≤ 5
+unfolding viewOf slot
+view-length s d = go (overLimits s d || eqb d 0)
+  where
+    go : (t : Bool) → length (cond t [] (take 5 (drop (5 * (d - 1)) s))) ≤ 5
+    go true = omega arith
+    go false = omega (arith, length-take 5 (drop (5 * (d - 1)) s))
+
+-- a line that is done
+module _ (terminal : Bool) (s : List ℕ) (d number : ℕ) (line out err : List ℕ) where
+  abbrev said : Line
+  said = lineOf (toldOf number line)
+
+  abbrev left : Left
+  left = lineLeft terminal true s d number line out err
+
+  pub answer-whole : length out ≡ 64 → before (left .3) ≡ writtenOf number said (stepOf s d said)
+  unfolding lineLeft
+  answer-whole h =
+      let done = stepOf s d said in
+      puts-whole out _ (omega (arith, answer-room number said (done .0 .report) (done .0 .depth) (viewOf (done .1) (done .0 .depth)) (view-length (done .1) (done .0 .depth))))
+
+  pub complaint-whole : length err ≡ 256 → before (left .4) ≡ saidOf terminal number (trimmed (toldOf number line)) said
+  unfolding lineLeft
+  complaint-whole h = puts-whole err _ (omega (arith, said-room terminal number (trimmed (toldOf number line)) said))
