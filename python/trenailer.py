@@ -78,9 +78,12 @@ def _path() -> str:
         return named
     here = Path(__file__).resolve().parent
     # This file is PREFIX/share/trenailer/python/trenailer.py where it is installed, and python/trenailer.py in the repository.
-    for path in (here.parents[2] / "lib/libtrenailer.so.0", here.parent / "target/sharedlib/libtrenailer.so"):
-        if path.is_file():
-            return str(path)
+    if here.parts[-3:] == ("share", "trenailer", "python"):
+        path = here.parents[2] / "lib/libtrenailer.so.0"
+    else:
+        path = here.parent / "target/sharedlib/libtrenailer.so"
+    if path.is_file():
+        return str(path)
     found = ctypes.util.find_library("trenailer")
     if found:
         return found
