@@ -15,7 +15,7 @@
  * Every call takes any bytes, any depth and any literal, keeps nothing between calls, and allocates nothing. A report other than 0
  * means that no byte of the stack and no depth has changed (a run keeps what the literals before the refused one did).
  *
- *     report   when
+ *     report   when (TRENAILER_REPORT_.. below)
  *     0        done
  *     1        a stack over 16,000 bytes, 5 x depth over its length, or more than 60,000 literals
  *     2        fewer numbers on the stack than the literal takes
@@ -39,6 +39,27 @@
 #ifdef __cplusplus
 extern "C" {
 #endif
+
+#define TRENAILER_VERSION "0.1.0"
+#define TRENAILER_VERSION_MAJOR 0
+#define TRENAILER_VERSION_MINOR 1
+#define TRENAILER_VERSION_PATCH 0
+
+#define TRENAILER_NUMBER_SIZE 5      /* bytes of a number */
+#define TRENAILER_STACK_MAX 16000    /* bytes of a stack */
+#define TRENAILER_DEPTH_MAX 3200     /* numbers on a stack of that many bytes */
+#define TRENAILER_LITERALS_MAX 60000 /* literals of a run */
+
+/* What trenailer_operate, trenailer_push and trenailer_run return: the reports of the table above. */
+enum {
+    TRENAILER_REPORT_DONE = 0,
+    TRENAILER_REPORT_OVER_LIMITS = 1,
+    TRENAILER_REPORT_TOO_FEW = 2,
+    TRENAILER_REPORT_MALFORMED = 3,
+    TRENAILER_REPORT_NO_ROOM = 4,
+    TRENAILER_REPORT_UNKNOWN_LITERAL = 5,
+    TRENAILER_REPORT_TOO_BIG = 6
+};
 
 /*
  * The ten literals. Of two numbers the lower one is the first (6, then 2, then divide leaves 3), and the result stands in its slot; the

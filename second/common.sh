@@ -5,12 +5,30 @@ root=$(dirname "$here")
 export CARGO_TARGET_DIR="$root/target/second"
 programs="$CARGO_TARGET_DIR/release"
 
+# fail WORDS: stops, before anything was compared.
+fail() {
+    echo "$(basename "$0"): $*" >&2
+    exit 2
+}
+
 # need COMMAND WHY: stops with a clear word where a command is missing.
 need() {
-    command -v "$1" >/dev/null || {
-        echo "$(basename "$0"): the command $1 is missing: $2" >&2
-        exit 2
-    }
+    command -v "$1" >/dev/null || fail "the command $1 is missing: $2"
+}
+
+# no_words USAGE WORDS: stops where there is a word.
+no_words() {
+    [ $# -eq 1 ] || fail "usage: $1"
+}
+
+# count_and_seed USAGE WORDS: stops unless the words are a number from 1 on, and perhaps a second
+# from 0 on. Nineteen digits always fit the 64 bits that the programs have for each.
+count_and_seed() {
+    local usage="usage: $1, where N is a number from 1 on and SEED one from 0 on"
+    shift
+    { [ $# -eq 1 ] || [ $# -eq 2 ]; } || fail "$usage"
+    [[ $1 =~ ^[0-9]{1,19}$ && $1 =~ [1-9] ]] || fail "$usage"
+    [[ ${2-0} =~ ^[0-9]{1,19}$ ]] || fail "$usage"
 }
 
 # build PROGRAM [FEATURE]: builds one program of this package, progress on standard error.
@@ -26,10 +44,7 @@ archive() {
         (cd "$root" && rt staticlib trenailer) >&2
         TRENAILER_LIB="$root/target/staticlib/libtrenailer.a"
     fi
-    [ -f "$TRENAILER_LIB" ] || {
-        echo "$(basename "$0"): no archive at $TRENAILER_LIB" >&2
-        exit 2
-    }
+    [ -f "$TRENAILER_LIB" ] || fail "no archive at $TRENAILER_LIB"
     TRENAILER_LIB=$(realpath "$TRENAILER_LIB")
     export TRENAILER_LIB
 }

@@ -1,0 +1,174 @@
+"""Holds python/trenailer.py to the second program's vectors, to the header, and to what README.md and its own text say.
+
+    python3 python/test_trenailer.py
+
+It builds the library first, if need be, by ./trenailer library, which needs rt. With the environment variable TRENAILER_LIBRARY it
+takes that shared library as it is.
+"""
+
+import doctest
+import os
+import re
+import struct
+import subprocess
+import sys
+import unittest
+from pathlib import Path
+
+ROOT = Path(__file__).resolve().parent.parent
+
+if not os.environ.get("TRENAILER_LIBRARY") and subprocess.run([ROOT / "trenailer", "library"]).returncode != 0:
+    sys.exit("test_trenailer: the library could not be built; trenailer says why above")
+
+sys.path.insert(0, str(ROOT / "python"))
+import trenailer  # noqa: E402
+
+
+# The format of crates/vectors, as the head of its src/main.rt has it. A line over LINE bytes, with its line feed, is no case.
+LINE = 65_536
+STACK, BYTES = 17_000, 61_000
+CASE = re.compile(rb"([oprc])([0-9]+) ([0-9]+):((?:[0-9A-Fa-f]{2})*)(\*?) ([0-9]+):((?:[0-9A-Fa-f]{2})*)(\*?)")
+
+
+def given(length, digits, star, most):
+    """The bytes of LENGTH:HEX or LENGTH:HEX*, or None where that can't be read."""
+    count, some = int(length), bytes.fromhex(digits.decode())
+    if count > most or len(some) > count or (star and not some):
+        return None
+    if star:
+        return (some * (count // len(some) + 1))[:count]
+    return some.ljust(count, b"\0")
+
+
+def told(some):
+    """LENGTH:HEX, with the zeros at the end left out."""
+    return f"{len(some)}:{some.rstrip(bytes(1)).hex().upper()}"
+
+
+def cell_told(cell):
+    if cell.kind == trenailer.REFUSED:
+        return f"R{cell.refused}"
+    if cell.kind == trenailer.VALUE:
+        return "V%d" % struct.unpack("<Q", struct.pack("<d", cell.value))
+    return {trenailer.BLANK: "B0", trenailer.ODD: "O0"}[cell.kind]
+
+
+def answer(line):
+    """What the library answers to a line of cases, without its line feed."""
+    case = CASE.fullmatch(line) if len(line) < LINE else None
+    if not case:
+        return "?"
+    kind, depth = case[1], int(case[2])
+    stack, some = given(*case.group(3, 4, 5), STACK), given(*case.group(6, 7, 8), BYTES)
+    if depth >= 1 << 64 or stack is None or some is None or (kind in b"oc" and len(some) != 1):
+        return "?"
+    stack, position = bytearray(stack), 0
+    if kind == b"o":
+        report, depth = trenailer.operate(stack, depth, some[0])
+    elif kind == b"p":
+        report, depth = trenailer.push(stack, depth, some)
+    elif kind == b"r":
+        report, position, depth = trenailer.run(stack, depth, some)
+    else:
+        report = some[0]
+    view, cell = trenailer.view(stack, depth), trenailer.cell(report, stack, depth)
+    return f"{report} {position} {depth} {told(stack)} {told(view)} {cell_told(cell)}"
+
+
+class Vectors(unittest.TestCase):
+    def test_every_case(self):
+        cases = (ROOT / "crates/vectors/stdin").read_bytes().split(b"\n")
+        cases = [line for line in cases if line and not line.startswith(b"#")]
+        answers = (ROOT / "crates/vectors/stdout").read_text().splitlines()
+        self.assertEqual(len(cases), len(answers))
+        self.assertGreater(len(cases), 30_000)
+        for case, wanted in zip(cases, answers):
+            got = answer(case)
+            if got != wanted:
+                self.fail(f"{case[:200]}\n  answered {got[:200]}\n  and not  {wanted[:200]}")
+        print(f"{len(cases)} cases answered as they should be", file=sys.stderr)
+
+    def test_a_wrong_answer_is_seen(self):
+        self.assertEqual(answer(b"o2 10:81000000008420000000 1:05"), "0 0 1 10:7D4CCCCCCC8420 5:7D4CCCCCCC V4591870180065280000")
+        self.assertNotEqual(answer(b"o2 10:81000000008420000000 1:0F"), "0 0 1 10:7D4CCCCCCC8420 5:7D4CCCCCCC V4591870180065280000")
+
+    def test_forms_of_a_case(self):
+        self.assertEqual(given(b"5", b"8240", b"", STACK), bytes.fromhex("8240000000"))
+        self.assertEqual(given(b"5", b"8240", b"*", STACK), bytes.fromhex("8240824082"))
+        self.assertEqual(answer(b"c1 5:8240 1:00"), "0 0 1 5:8240 5:8240 V4613937818241073152")
+        self.assertEqual(answer(b"c1 5:8240 1:06"), "6 0 1 5:8240 5:8240 R6")
+        for line in (b"x1 5: 1:05", b"o1 5: 2:0505", b"c1 5: 0:", b"o1 5:0 1:05", b"o1 1:0000 1:05", b"o1 5:* 1:05", b"o1 17001: 1:05",
+                     b"p0 5: 61001:", b"o18446744073709551616 5: 1:05", b"o1 5: 1:05 ", b"o" + b"0" * LINE + b" 5: 1:05"):
+            self.assertEqual(answer(line), "?", line[:40])
+
+
+class Texts(unittest.TestCase):
+    def test_module(self):
+        failed, tried = doctest.testmod(trenailer)
+        self.assertGreater(tried, 0)
+        self.assertEqual(failed, 0)
+
+    def test_readme(self):
+        failed, tried = doctest.testfile(str(ROOT / "README.md"), module_relative=False)
+        self.assertGreater(tried, 0)
+        self.assertEqual(failed, 0)
+
+    def test_header(self):
+        header = (ROOT / "include/trenailer.h").read_text()
+        have = dict(re.findall(r"\bTRENAILER_(\w+) =? ?\"?([0-9.]+)\b", header))
+        wanted = {literal.name: literal for literal in trenailer.Literal}
+        wanted.update({"REPORT_" + report.name: report for report in trenailer.Report})
+        wanted.update({name: getattr(trenailer, name) for name in ("REFUSED", "BLANK", "ODD", "VALUE")})
+        wanted.update({name: getattr(trenailer, name) for name in ("NUMBER_SIZE", "STACK_MAX", "DEPTH_MAX", "LITERALS_MAX")})
+        wanted.update(zip(("VERSION_MAJOR", "VERSION_MINOR", "VERSION_PATCH"), trenailer.__version__.split(".")))
+        self.assertEqual(have.pop("VERSION"), trenailer.__version__)
+        self.assertEqual({name: int(n) for name, n in have.items()}, {name: int(n) for name, n in wanted.items()})
+
+
+class Calls(unittest.TestCase):
+    def test_nothing_lent(self):
+        self.assertEqual(trenailer.operate(bytearray(), 0, trenailer.Literal.DELETE), (trenailer.Report.TOO_FEW, 0))
+        self.assertEqual(trenailer.push(bytearray(), 0, b""), (trenailer.Report.NO_ROOM, 0))
+        self.assertEqual(trenailer.run(bytearray(), 0, b""), (trenailer.Report.DONE, 0, 0))
+        self.assertEqual(trenailer.view(bytearray(), 0), b"")
+        self.assertEqual(trenailer.cell(0, bytearray(), 0), trenailer.Cell(trenailer.BLANK))
+
+    def test_a_stack_pushed_onto_itself(self):
+        stack = bytearray.fromhex("0000060000")
+        self.assertEqual(trenailer.push(stack, 0, stack), (trenailer.Report.DONE, 1))
+        self.assertEqual(stack, bytes.fromhex("0000060000"))
+
+    def test_what_c_can_not_hold(self):
+        stack = bytearray(10)
+        for depth in (-1, 1 << 64):
+            self.assertRaises(ValueError, trenailer.operate, stack, depth, 2)
+            self.assertRaises(ValueError, trenailer.push, stack, depth, bytes(5))
+            self.assertRaises(ValueError, trenailer.run, stack, depth, b"")
+            self.assertRaises(ValueError, trenailer.view, stack, depth)
+            self.assertRaises(ValueError, trenailer.cell, 0, stack, depth)
+        for byte in (-1, 256):
+            self.assertRaises(ValueError, trenailer.operate, stack, 0, byte)
+            self.assertRaises(ValueError, trenailer.cell, byte, stack, 0)
+        self.assertRaises(TypeError, trenailer.push, stack, 0, 5)
+        self.assertRaises(TypeError, trenailer.operate, bytes(10), 0, 2)
+        self.assertEqual(stack, bytes(10))
+
+    def test_whole(self):
+        for n, number in ((0, "0000000000"), (1000, "0000e80300"), (-1, "00ffffff00"), (-65_535, "00ff010000"), (65_535, "0000ffff00")):
+            self.assertEqual(trenailer.whole(n).hex(), number)
+            stack = trenailer.Stack(5)
+            self.assertEqual(stack.push(trenailer.whole(n)), trenailer.Report.DONE)
+            self.assertEqual(stack.cell(), trenailer.Cell(trenailer.VALUE, None, float(n)))
+        self.assertRaises(ValueError, trenailer.whole, 65_536)
+        self.assertRaises(ValueError, trenailer.whole, -65_536)
+
+    def test_a_run_of_document_01(self):
+        stack = trenailer.Stack(10)
+        stack.bytes[:], stack.depth = bytes.fromhex("00000600000000020000"), 2
+        self.assertEqual(stack.run([5, 49, 49]), (trenailer.Report.NO_ROOM, 2))
+        self.assertEqual((stack.depth, stack.bytes.hex()), (2, "82400000008240000000"))
+        self.assertEqual(stack.cell(trenailer.Report.NO_ROOM), trenailer.Cell(trenailer.REFUSED, 4))
+
+
+if __name__ == "__main__":
+    unittest.main()
