@@ -1,5 +1,6 @@
-// The answer to a case, as text.
+// The answer to a case, as text. Each way to write one says whether it was written.
 use calculator::Cell;
+use libc::STDERR_FILENO;
 use libc::STDOUT_FILENO;
 
 // A number in decimal, and the byte that ends it.
@@ -70,14 +71,23 @@ fn put_seen(out: &mut [u8], at: usize, report: u8, stack: &[u8], depth: usize) -
     put_cell(out, third, calculator::cell(report, stack, depth))
 }
 
+// Whether an answer could be written; if not, standard error says so.
+fn write(bytes: &[u8]) -> bool {
+    if io::write_all(STDOUT_FILENO, bytes) {
+        return true;
+    }
+    io::write_all(STDERR_FILENO, b"vectors: standard output cannot be written\n");
+    false
+}
+
 // A stack of 17,000 bytes and the rest of its answer fit the buffer.
-pub(crate) fn write_answer(report: u8, position: usize, stack: &[u8], depth: usize) {
+pub(crate) fn write_answer(report: u8, position: usize, stack: &[u8], depth: usize) -> bool {
     let mut out = io::large_buffer();
     let next = put_outcome(&mut out, report, position, depth);
     let end = put_seen(&mut out, next, report, stack, depth);
-    io::write_all(STDOUT_FILENO, text::first(&out, end));
+    write(text::first(&out, end))
 }
 
-pub(crate) fn write_malformed() {
-    io::write_all(STDOUT_FILENO, b"?\n");
+pub(crate) fn write_malformed() -> bool {
+    write(b"?\n")
 }

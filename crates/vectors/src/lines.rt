@@ -1,32 +1,68 @@
-// Lines out of the parts of the input. What is kept between parts is the line so far, with how many bytes of it are held.
+// Lines out of the input, which comes in parts of any size. What is kept between parts is the line so far, with how many bytes of it are
+// held.
 use crate::cases;
+use libc::STDERR_FILENO;
+use libc::STDIN_FILENO;
 
-// A whole line with its line feed, which one that is too long has lost: then its last field has no end.
-fn end_line(line: &[u8]) {
+// Held, where nothing more is to be done: the input has ended or can't be read, or an answer could not be written.
+pub(crate) const STOPPED: usize = 18446744073709551615;
+
+// A whole line with its line feed, which one that is too long has lost: then its last field has no end. Whether the answer, if any, was
+// written.
+fn end_line(line: &[u8]) -> bool {
     if line.len() < 2 {
-        return;
+        return true;
     }
-    if line[0] == b'#' {
-        return;
+    let kind = line[0];
+    if kind == b'#' {
+        return true;
     }
-    cases::answer(line);
+    cases::answer(line, kind)
 }
 
-pub(crate) fn take_byte(line: &mut [u8; 4096], held: usize, byte: u8) -> usize {
+fn take_byte(line: &mut [u8; 65536], held: usize, byte: u8) -> usize {
     let next = text::put(line, held, byte);
     if byte != b'\n' {
         return next;
     }
-    end_line(text::first(line, next));
-    0
+    if end_line(text::first(line, next)) {
+        return 0;
+    }
+    STOPPED
 }
 
-pub(crate) fn take_part(line: &mut [u8; 4096], held: usize, part: &[u8]) -> usize {
+fn take_part(line: &mut [u8; 65536], held: usize, part: &[u8]) -> usize {
     let mut next = held;
     let mut i = 0;
     while i < part.len() {
         next = take_byte(line, next, part[i]);
+        if next == STOPPED {
+            break;
+        }
         i += 1;
     }
     next
+}
+
+// The end of the input. A last line needs no line feed.
+fn take_end(line: &mut [u8; 65536], held: usize) -> usize {
+    if 0 < held {
+        take_byte(line, held, b'\n');
+    }
+    STOPPED
+}
+
+// One read.
+pub(crate) fn take_some(line: &mut [u8; 65536], held: usize) -> usize {
+    let mut input = io::buffer();
+    let got = libc::read(STDIN_FILENO, &mut input);
+    if got < 0 {
+        io::write_all(STDERR_FILENO, b"vectors: standard input cannot be read\n");
+        return STOPPED;
+    }
+    let n = io::count(got, &input);
+    if n == 0 {
+        return take_end(line, held);
+    }
+    take_part(line, held, &input[..n])
 }
