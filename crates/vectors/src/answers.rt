@@ -27,14 +27,6 @@ fn put_bytes(out: &mut [u8], at: usize, bytes: &[u8]) -> usize {
     text::put(out, end, b' ')
 }
 
-// A cell's value is never a NaN. The test says so here.
-fn bits_of(x: f64) -> u64 {
-    if x == x {
-        return f64::to_bits(x);
-    }
-    0
-}
-
 // A cell is a letter and a number.
 fn letter_of(cell: Cell) -> u8 {
     match cell {
@@ -45,12 +37,18 @@ fn letter_of(cell: Cell) -> u8 {
     }
 }
 
+// A cell's value is never a NaN. The test says so here.
 fn number_of(cell: Cell) -> u64 {
     match cell {
         Cell::Refused(report) => report as u64,
         Cell::Blank => 0,
         Cell::Odd => 0,
-        Cell::Value(x) => bits_of(x),
+        Cell::Value(x) => {
+            if x == x {
+                return f64::to_bits(x);
+            }
+            0
+        }
     }
 }
 
@@ -76,7 +74,10 @@ fn write(bytes: &[u8]) -> bool {
     if io::write_all(STDOUT_FILENO, bytes) {
         return true;
     }
-    io::write_all(STDERR_FILENO, b"vectors: standard output cannot be written\n");
+    io::write_all(
+        STDERR_FILENO,
+        b"vectors: standard output cannot be written\n",
+    );
     false
 }
 

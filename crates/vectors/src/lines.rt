@@ -44,11 +44,13 @@ fn take_part(line: &mut [u8; 65536], held: usize, part: &[u8]) -> usize {
     next
 }
 
-// The end of the input. A last line needs no line feed.
-fn take_end(line: &mut [u8; 65536], held: usize) -> usize {
-    if 0 < held {
-        take_byte(line, held, b'\n');
+// A read that got no byte: the input has ended, or can't be read. A last line needs no line feed, and an empty one has no answer.
+fn take_end(line: &mut [u8; 65536], held: usize, got: isize) -> usize {
+    if got < 0 {
+        io::write_all(STDERR_FILENO, b"vectors: standard input cannot be read\n");
+        return STOPPED;
     }
+    take_byte(line, held, b'\n');
     STOPPED
 }
 
@@ -56,13 +58,9 @@ fn take_end(line: &mut [u8; 65536], held: usize) -> usize {
 pub(crate) fn take_some(line: &mut [u8; 65536], held: usize) -> usize {
     let mut input = io::buffer();
     let got = libc::read(STDIN_FILENO, &mut input);
-    if got < 0 {
-        io::write_all(STDERR_FILENO, b"vectors: standard input cannot be read\n");
-        return STOPPED;
-    }
     let n = io::count(got, &input);
     if n == 0 {
-        return take_end(line, held);
+        return take_end(line, held, got);
     }
     take_part(line, held, &input[..n])
 }
