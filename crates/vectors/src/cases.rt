@@ -2,33 +2,31 @@
 use crate::answers;
 use crate::reading;
 
-fn call_with_byte(kind: u8, stack: &mut [u8], depth: usize, byte: u8) -> bool {
-    match kind {
-        b'o' => {
+fn call_with_byte(kind: u8, stack: &mut [u8], depth: usize, bytes: &[u8]) -> bool {
+    if bytes.len() == 1 {
+        let byte = bytes[0];
+        if kind == b'o' {
             let done = calculator::operate(stack, depth, byte);
-            answers::write_answer(done.report, 0, stack, done.depth)
+            return answers::write_answer(done.report, 0, stack, done.depth);
         }
-        b'c' => answers::write_answer(byte, 0, stack, depth),
-        _ => answers::write_malformed(),
+        if kind == b'c' {
+            return answers::write_answer(byte, 0, stack, depth);
+        }
     }
+    answers::write_malformed()
 }
 
 fn call(kind: u8, stack: &mut [u8], depth: usize, bytes: &[u8]) -> bool {
     match kind {
         b'p' => {
             let done = calculator::push(stack, depth, bytes);
-            return answers::write_answer(done.report, 0, stack, done.depth);
+            answers::write_answer(done.report, 0, stack, done.depth)
         }
         b'r' => {
             let done = calculator::run(stack, depth, bytes);
-            return answers::write_answer(done.report, done.position, stack, done.depth);
+            answers::write_answer(done.report, done.position, stack, done.depth)
         }
-        _ => {
-            if bytes.len() == 1 {
-                return call_with_byte(kind, stack, depth, bytes[0]);
-            }
-            answers::write_malformed()
-        }
+        _ => call_with_byte(kind, stack, depth, bytes),
     }
 }
 

@@ -7,25 +7,20 @@ use libc::STDIN_FILENO;
 // Held, where nothing more is to be done: the input has ended or can't be read, or an answer could not be written.
 pub(crate) const STOPPED: usize = 18446744073709551615;
 
-// A whole line with its line feed, which one that is too long has lost: then its last field has no end. Whether the answer, if any, was
-// written.
-fn end_line(line: &[u8]) -> bool {
-    if line.len() < 2 {
-        return true;
-    }
-    let kind = line[0];
-    if kind == b'#' {
-        return true;
-    }
-    cases::answer(line, kind)
-}
-
+// A line feed ends a line, but one that is too long has lost it: then its last field has no end.
 fn take_byte(line: &mut [u8; 65536], held: usize, byte: u8) -> usize {
     let next = text::put(line, held, byte);
     if byte != b'\n' {
         return next;
     }
-    if end_line(text::first(line, next)) {
+    if next < 2 {
+        return 0;
+    }
+    let kind = line[0];
+    if kind == b'#' {
+        return 0;
+    }
+    if cases::answer(text::first(line, next), kind) {
         return 0;
     }
     STOPPED

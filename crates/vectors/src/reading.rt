@@ -58,25 +58,25 @@ fn repeat(out: &mut [u8], period: usize) {
     }
 }
 
-// What comes after so many hexadecimal digits: the end of the field, or before it the sign that their bytes are repeated.
-fn after_digits(line: &[u8], at: usize, end: u8, out: &mut [u8], digits: usize) -> usize {
+// The place after so many hexadecimal digits and, where it follows, the sign that their bytes are repeated.
+fn after_digits(line: &[u8], at: usize, out: &mut [u8], digits: usize) -> usize {
     if digits % 2 != 0 {
         return LOST;
     }
     let star = past(line, at, b'*');
     if star == LOST {
-        return past(line, at, end);
+        return at;
     }
     if digits == 0 {
         return LOST;
     }
     repeat(out, digits / 2);
-    past(line, star, end)
+    star
 }
 
 // Pairs of hexadecimal digits, as the first of at most n bytes; one byte more stops at a digit, which ends no field. The buffer has zeros
 // before.
-fn hex_at(line: &[u8], at: usize, end: u8, out: &mut [u8], n: usize) -> usize
+fn hex_at(line: &[u8], at: usize, out: &mut [u8], n: usize) -> usize
     requires { ⌜ n ≤ length (now out) ⌝ }
 {
     let mut i = at;
@@ -92,7 +92,7 @@ fn hex_at(line: &[u8], at: usize, end: u8, out: &mut [u8], n: usize) -> usize
         out[k] = out[k] % 16 * 16 + d;
         i += 1;
     }
-    after_digits(line, i, end, out, i - at)
+    after_digits(line, i, out, i - at)
 }
 
 // LENGTH:HEX or LENGTH:HEX*, into a buffer of zeros.
@@ -107,8 +107,9 @@ pub(crate) fn bytes_at(line: &[u8], at: usize, end: u8, out: &mut [u8]) -> Field
             next: LOST,
         };
     }
+    let stop = hex_at(line, count.next, out, n);
     Field {
         value: n,
-        next: hex_at(line, count.next, end, out, n),
+        next: past(line, stop, end),
     }
 }
