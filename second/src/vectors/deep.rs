@@ -5,8 +5,9 @@ use crate::case::{Call, Case};
 use crate::reference::literals::ALL;
 use crate::Bytes;
 
-/// Seven numbers, of every form. No power of 2 is a multiple of 7: so slot i and slot i - 256
-/// hold different numbers, and slot i - 512 a third, up to as deep as a stack may be.
+/// Seven numbers, of every form. 256 is no multiple of 7, so slot i and slot i - 256 hold different
+/// numbers. Cut to 8 bits, only the slots 1,792 to 2,047 lead to the same one, and none has its top
+/// there.
 const SEVEN: [Bytes; 7] = [
     [0x83, 0x20, 0x00, 0x00, 0x01],
     [0x00, 0xFF, 0xF9, 0xFF, 0x00],

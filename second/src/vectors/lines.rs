@@ -113,6 +113,6 @@ fn longest(v: &mut Vectors) {
     v.line(&longer, "?");
     v.line("c0 0: 1:00", "0 0 0 0: 0: B0");
     v.line(&"x".repeat(70_000), "?");
-    v.reason(&"a comment may have any length ".repeat(2_400));
+    v.reason("a comment may have any length ".repeat(2_400).trim_end());
     v.line("c0 0: 1:00", "0 0 0 0: 0: B0");
 }
