@@ -9,11 +9,13 @@ use crate::text::{answer_line, hex};
 const LONGEST: usize = 65_536;
 
 /// Ways to write the report 2 at depth 1 of the stack 82 40 00 00 00.
-const RIGHT: [&str; 4] = [
+const RIGHT: [&str; 6] = [
     "c1 5:8240000000 1:02",
     "c1 5:8240 1:02",
     "c1 5:824000 1:02*",
     "c1 5:8240000000* 1:02",
+    "c01 005:8240 0000001:02",
+    "c00000000000000000000000001 5:8240 1:02",
 ];
 
 /// Ways to write the stack 0A 0B 0C 0A 0B 0C 0A at depth 1, with report 0.
@@ -24,8 +26,9 @@ const REPEATED: [&str; 4] = [
     "c1 7:0A0B0C0A0B0C0A* 1:00*",
 ];
 
-const WRONG: [&str; 46] = [
+const WRONG: [&str; 50] = [
     "x",
+    " ",
     "c",
     "1",
     "c1",
@@ -71,6 +74,9 @@ const WRONG: [&str; 46] = [
     "c1 5:8240 * 1:02",
     "c1 5:824000000000* 1:02",
     "c1 5:8240 1:0202*",
+    "c18446744073709551616 5:8240 1:02",
+    "c1 18446744073709551621:8240 1:02",
+    "c1 5:8240 18446744073709551617:02",
 ];
 
 pub fn cases(v: &mut Vectors) {
@@ -81,6 +87,19 @@ pub fn cases(v: &mut Vectors) {
     answered(v, &REPEATED, call, vec![10, 11, 12, 10, 11, 12, 10]);
     v.reason("lines that are no case");
     for line in WRONG {
+        v.line(line, "?");
+    }
+    v.reason("stacks of up to 17,000 bytes and lists of up to 61,000");
+    let (call, mut stack) = (Call::Cell(2), vec![0x82, 0x40]);
+    stack.resize(17_000, 0);
+    answered(v, &["c1 17000:8240 1:02"], call, stack);
+    let call = Call::Run(vec![27; 61_000]);
+    answered(v, &["r1 5:8240 61000:1B*"], call, vec![0x82, 0x40, 0, 0, 0]);
+    for line in [
+        "c1 17001:8240 1:02",
+        "r1 5:8240 61001:1B*",
+        "p1 5:8240 61001:",
+    ] {
         v.line(line, "?");
     }
     longest(v);
