@@ -43,12 +43,7 @@ fn number_of(cell: Cell) -> u64 {
         Cell::Refused(report) => report as u64,
         Cell::Blank => 0,
         Cell::Odd => 0,
-        Cell::Value(x) => {
-            if x == x {
-                return f64::to_bits(x);
-            }
-            0
-        }
+        Cell::Value(x) => { if x == x { f64::to_bits(x) } else { 0 } }
     }
 }
 
@@ -71,14 +66,14 @@ fn put_seen(out: &mut [u8], at: usize, report: u8, stack: &[u8], depth: usize) -
 
 // Whether an answer could be written; if not, standard error says so.
 fn write(bytes: &[u8]) -> bool {
-    if io::write_all(STDOUT_FILENO, bytes) {
-        return true;
+    let written = io::write_all(STDOUT_FILENO, bytes);
+    if !written {
+        io::write_all(
+            STDERR_FILENO,
+            b"vectors: standard output cannot be written\n",
+        );
     }
-    io::write_all(
-        STDERR_FILENO,
-        b"vectors: standard output cannot be written\n",
-    );
-    false
+    written
 }
 
 // A stack of 17,000 bytes and the rest of its answer fit the buffer.

@@ -2,18 +2,15 @@
 use crate::answers;
 use crate::reading;
 
-fn call_with_byte(kind: u8, stack: &mut [u8], depth: usize, bytes: &[u8]) -> bool {
-    if bytes.len() == 1 {
-        let byte = bytes[0];
-        if kind == b'o' {
+fn call_with_byte(kind: u8, stack: &mut [u8], depth: usize, byte: u8) -> bool {
+    match kind {
+        b'o' => {
             let done = calculator::operate(stack, depth, byte);
-            return answers::write_answer(done.report, 0, stack, done.depth);
+            answers::write_answer(done.report, 0, stack, done.depth)
         }
-        if kind == b'c' {
-            return answers::write_answer(byte, 0, stack, depth);
-        }
+        b'c' => answers::write_answer(byte, 0, stack, depth),
+        _ => answers::write_malformed(),
     }
-    answers::write_malformed()
 }
 
 fn call(kind: u8, stack: &mut [u8], depth: usize, bytes: &[u8]) -> bool {
@@ -26,7 +23,13 @@ fn call(kind: u8, stack: &mut [u8], depth: usize, bytes: &[u8]) -> bool {
             let done = calculator::run(stack, depth, bytes);
             answers::write_answer(done.report, done.position, stack, done.depth)
         }
-        _ => call_with_byte(kind, stack, depth, bytes),
+        _ => {
+            if bytes.len() == 1 {
+                call_with_byte(kind, stack, depth, bytes[0])
+            } else {
+                answers::write_malformed()
+            }
+        }
     }
 }
 
@@ -35,9 +38,10 @@ fn answer_on(line: &[u8], kind: u8, at: usize, stack: &mut [u8], depth: usize) -
     let mut bytes = [0u8; 61000];
     let given = reading::bytes_at(line, at, b'\n', &mut bytes);
     if given.next == line.len() {
-        return call(kind, stack, depth, text::first(&bytes, given.value));
+        call(kind, stack, depth, text::first(&bytes, given.value))
+    } else {
+        answers::write_malformed()
     }
-    answers::write_malformed()
 }
 
 // A line that is no comment. The buffers are as long as the longest stack and list of literals that a case may have: each is over a

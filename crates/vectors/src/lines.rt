@@ -10,20 +10,18 @@ pub(crate) const STOPPED: usize = 18446744073709551615;
 // A line feed ends a line, but one that is too long has lost it: then its last field has no end.
 fn take_byte(line: &mut [u8; 65536], held: usize, byte: u8) -> usize {
     let next = text::put(line, held, byte);
-    if byte != b'\n' {
-        return next;
-    }
-    if next < 2 {
-        return 0;
-    }
     let kind = line[0];
-    if kind == b'#' {
-        return 0;
+    if byte != b'\n' {
+        next
+    } else if next < 2 {
+        0
+    } else if kind == b'#' {
+        0
+    } else if cases::answer(text::first(line, next), kind) {
+        0
+    } else {
+        STOPPED
     }
-    if cases::answer(text::first(line, next), kind) {
-        return 0;
-    }
-    STOPPED
 }
 
 fn take_part(line: &mut [u8; 65536], held: usize, part: &[u8]) -> usize {
@@ -43,9 +41,9 @@ fn take_part(line: &mut [u8; 65536], held: usize, part: &[u8]) -> usize {
 fn take_end(line: &mut [u8; 65536], held: usize, got: isize) -> usize {
     if got < 0 {
         io::write_all(STDERR_FILENO, b"vectors: standard input cannot be read\n");
-        return STOPPED;
+    } else {
+        take_byte(line, held, b'\n');
     }
-    take_byte(line, held, b'\n');
     STOPPED
 }
 
@@ -55,7 +53,8 @@ pub(crate) fn take_some(line: &mut [u8; 65536], held: usize) -> usize {
     let got = libc::read(STDIN_FILENO, &mut input);
     let n = io::count(got, &input);
     if n == 0 {
-        return take_end(line, held, got);
+        take_end(line, held, got)
+    } else {
+        take_part(line, held, &input[..n])
     }
-    take_part(line, held, &input[..n])
 }

@@ -14,12 +14,12 @@ pub(crate) struct Field {
 // The place after a byte, where it stands at this place.
 fn past(line: &[u8], at: usize, byte: u8) -> usize {
     if line.len() <= at {
-        return LOST;
+        LOST
+    } else if line[at] != byte {
+        LOST
+    } else {
+        at + 1
     }
-    if line[at] != byte {
-        return LOST;
-    }
-    at + 1
 }
 
 // A number in decimal, of one digit at least. One over 64 bits stops at a digit, which ends no field.
@@ -38,14 +38,15 @@ pub(crate) fn number_at(line: &[u8], at: usize, end: u8) -> Field {
         i += 1;
     }
     if i == at {
-        return Field {
+        Field {
             value: 0,
             next: LOST,
-        };
-    }
-    Field {
-        value,
-        next: past(line, i, end),
+        }
+    } else {
+        Field {
+            value,
+            next: past(line, i, end),
+        }
     }
 }
 
@@ -60,18 +61,17 @@ fn repeat(out: &mut [u8], period: usize) {
 
 // The place after so many hexadecimal digits and, where it follows, the sign that their bytes are repeated.
 fn after_digits(line: &[u8], at: usize, out: &mut [u8], digits: usize) -> usize {
-    if digits % 2 != 0 {
-        return LOST;
-    }
     let star = past(line, at, b'*');
-    if star == LOST {
-        return at;
+    if digits % 2 != 0 {
+        LOST
+    } else if star == LOST {
+        at
+    } else if digits == 0 {
+        LOST
+    } else {
+        repeat(out, digits / 2);
+        star
     }
-    if digits == 0 {
-        return LOST;
-    }
-    repeat(out, digits / 2);
-    star
 }
 
 // Pairs of hexadecimal digits, as the first of at most n bytes; one byte more stops at a digit, which ends no field. The buffer has zeros
