@@ -7,6 +7,8 @@ pub enum Call {
     Operate(u8),
     Push(Vec<u8>),
     Run(Vec<u8>),
+    /// Nothing is done: the view and the cell of the stack as it is, with this report.
+    Cell(u8),
 }
 
 #[derive(Clone, Debug, PartialEq, Eq)]
@@ -43,6 +45,7 @@ impl Case {
                 let o = reference::run(&mut stack, self.depth, literals);
                 (o.report, Some(o.position), o.depth)
             }
+            Call::Cell(report) => (*report, None, self.depth),
         };
         let view = reference::view(&stack, depth);
         let cell = reference::cell(report, &stack, depth);

@@ -11,6 +11,7 @@ pub mod rng;
 #[cfg(feature = "z80")]
 pub mod rom;
 pub mod sheet;
+pub mod sheets;
 pub mod text;
 pub mod vectors;
 

@@ -1,32 +1,44 @@
 //! What `calc` answers to a sheet, a step a line: the report, the depth and the top's bytes.
 
+use crate::draw::short;
 use crate::reference::literals::{ALL, NAMES};
 use crate::reference::{operate, push, slot};
 
 const STACK_LEN: usize = 16_000;
+
+/// The most bytes that may stand in a line before its comment.
+pub const LONGEST: usize = 65_535;
+
+const BYTE_ORDER_MARK: &[u8] = &[0xEF, 0xBB, 0xBF];
+
+/// What is written, and the line that could not be read, if any: nothing after it is done.
+#[derive(Debug, PartialEq, Eq)]
+pub struct Followed {
+    pub answers: String,
+    pub unreadable: Option<usize>,
+}
 
 enum Step {
     Push(Vec<u8>),
     Literal(u8),
 }
 
-/// The answers to a whole input, a line each.
-pub fn answers(input: &str) -> String {
+pub fn follow(input: &[u8]) -> Followed {
     let mut stack = vec![0; STACK_LEN];
     let mut depth = 0;
-    let mut out = String::new();
-    for (i, line) in input.lines().enumerate() {
-        let line = line.trim_matches([' ', '\t']);
-        if line.is_empty() || line.starts_with('#') {
+    let mut answers = String::new();
+    let input = input.strip_prefix(BYTE_ORDER_MARK).unwrap_or(input);
+    for (i, line) in lines(input).into_iter().enumerate() {
+        let Some(words) = words(line) else {
+            return stopped(answers, i + 1);
+        };
+        if words.is_empty() {
             continue;
         }
-        let outcome = match step(line) {
+        let outcome = match step(&words) {
             Some(Step::Push(number)) => push(&mut stack, depth, &number),
             Some(Step::Literal(literal)) => operate(&mut stack, depth, literal),
-            None => {
-                out += &format!("? line {}\n", i + 1);
-                continue;
-            }
+            None => return stopped(answers, i + 1),
         };
         depth = outcome.depth;
         let top = match depth {
@@ -35,33 +47,92 @@ pub fn answers(input: &str) -> String {
                 .map(|b| format!("{b:02X}"))
                 .join(" "),
         };
-        out += &format!("{} {depth} {top}\n", outcome.report);
+        answers += &format!("{} {depth} {top}\n", outcome.report);
     }
-    out
+    Followed {
+        answers,
+        unreadable: None,
+    }
 }
 
-/// Ten hex digits are a number; up to three decimal digits, or a name, are a literal.
-fn step(line: &str) -> Option<Step> {
-    if let Some(i) = NAMES.iter().position(|&name| name == line) {
-        return Some(Step::Literal(ALL[i]));
+fn stopped(answers: String, line: usize) -> Followed {
+    Followed {
+        answers: answers + &format!("? line {line}\n"),
+        unreadable: Some(line),
     }
-    let all = |digit: fn(&u8) -> bool| line.as_bytes().iter().all(digit);
-    if line.len() <= 3 && all(u8::is_ascii_digit) {
-        return line.parse().ok().map(Step::Literal);
-    }
-    number(line).map(Step::Push)
 }
 
-/// Five bytes of two digits each, with or without blanks between them.
-fn number(line: &str) -> Option<Vec<u8>> {
-    let digits: String = line
-        .split([' ', '\t'])
-        .map(|part| (part.len() % 2 == 0).then_some(part))
-        .collect::<Option<_>>()?;
-    if digits.len() != 10 || !digits.bytes().all(|b| b.is_ascii_hexdigit()) {
+/// A line ends with a line feed, a carriage return, or a carriage return and a line feed. The
+/// last needs no end where it has a byte.
+fn lines(input: &[u8]) -> Vec<&[u8]> {
+    let mut all = Vec::new();
+    let mut left = input;
+    while let Some(n) = left.iter().position(|&b| b == b'\n' || b == b'\r') {
+        all.push(&left[..n]);
+        let end = if left[n..].starts_with(b"\r\n") { 2 } else { 1 };
+        left = &left[n + end..];
+    }
+    if !left.is_empty() {
+        all.push(left);
+    }
+    all
+}
+
+/// The words before the comment; `None` where too much stands there.
+fn words(line: &[u8]) -> Option<Vec<&[u8]>> {
+    let before = line.split(|&b| b == b'#').next().unwrap_or(line);
+    (before.len() <= LONGEST).then(|| {
+        before
+            .split(|&b| b == b' ' || b == b'\t')
+            .filter(|word| !word.is_empty())
+            .collect()
+    })
+}
+
+fn step(words: &[&[u8]]) -> Option<Step> {
+    match words {
+        [b"push", n] => pushed(n).map(Step::Push),
+        [b"literal", n] => {
+            let literal = decimal(n)?;
+            u8::try_from(literal).ok().map(Step::Literal)
+        }
+        [name] => {
+            let i = NAMES.iter().position(|known| known.as_bytes() == *name)?;
+            Some(Step::Literal(ALL[i]))
+        }
+        [_, _, _, _, _] => {
+            let number: Option<Vec<u8>> = words.iter().map(|word| byte(word)).collect();
+            number.map(Step::Push)
+        }
+        _ => None,
+    }
+}
+
+/// The short number of a value from -65,535 to 65,535.
+fn pushed(word: &[u8]) -> Option<Vec<u8>> {
+    let (sign, digits) = match word.strip_prefix(b"-") {
+        Some(digits) => (-1, digits),
+        None => (1, word),
+    };
+    let magnitude = decimal(digits)?;
+    (magnitude <= 65_535).then(|| short(sign * magnitude as i32, 0).to_vec())
+}
+
+/// Any number of decimal digits, one at least. What is beyond all ranges here comes out as some
+/// number that is so too.
+fn decimal(digits: &[u8]) -> Option<u64> {
+    if digits.is_empty() || !digits.iter().all(u8::is_ascii_digit) {
         return None;
     }
-    (0..5)
-        .map(|i| u8::from_str_radix(&digits[2 * i..2 * i + 2], 16).ok())
-        .collect()
+    let grow = |n: u64, d: &u8| n.saturating_mul(10).saturating_add(u64::from(d - b'0'));
+    Some(digits.iter().fold(0, grow))
+}
+
+/// Two hexadecimal digits of either case.
+fn byte(word: &[u8]) -> Option<u8> {
+    let [high, low] = word else {
+        return None;
+    };
+    let digit = |b: u8| char::from(b).to_digit(16);
+    Some((16 * digit(*high)? + digit(*low)?) as u8)
 }

@@ -7,14 +7,36 @@ pub fn hex(bytes: &[u8]) -> String {
     bytes.iter().map(|b| format!("{b:02X}")).collect()
 }
 
-/// `LENGTH:HEX` of a case, with zeros at the end left out only where they are many: it reads better.
+/// The bytes of a case, as `LENGTH:HEX` or, where it is much shorter, as `LENGTH:HEX*`. Zeros at
+/// the end are left out only where they are many: it reads better.
 fn given(bytes: &[u8]) -> String {
     let tail = bytes.iter().rev().take_while(|&&b| b == 0).count();
-    if tail > 8 {
-        counted(bytes)
+    let written = if tail > 8 {
+        bytes.len() - tail
     } else {
-        format!("{}:{}", bytes.len(), hex(bytes))
+        bytes.len()
+    };
+    let period = period(bytes);
+    if written > 64 && 2 * period < written {
+        format!("{}:{}*", bytes.len(), hex(&bytes[..period]))
+    } else {
+        format!("{}:{}", bytes.len(), hex(&bytes[..written]))
     }
+}
+
+/// The least number of bytes that give all of them when they are repeated, the last time cut
+/// short where need be. It is what is left without the longest part that is both their beginning
+/// and their end, which is found from those of the beginnings.
+fn period(bytes: &[u8]) -> usize {
+    let mut both = vec![0; bytes.len() + 1];
+    for i in 1..bytes.len() {
+        let mut n = both[i];
+        while n > 0 && bytes[i] != bytes[n] {
+            n = both[n];
+        }
+        both[i + 1] = if bytes[i] == bytes[n] { n + 1 } else { 0 };
+    }
+    bytes.len() - both[bytes.len()]
 }
 
 /// `LENGTH:HEX` of an answer, with no zeros at the end.
@@ -28,6 +50,7 @@ pub fn case_line(case: &Case) -> String {
         Call::Operate(literal) => ('o', vec![*literal]),
         Call::Push(number) => ('p', number.clone()),
         Call::Run(literals) => ('r', literals.clone()),
+        Call::Cell(report) => ('c', vec![*report]),
     };
     let stack = given(&case.stack);
     format!("{kind}{} {stack} {}", case.depth, given(&bytes))

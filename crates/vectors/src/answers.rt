@@ -1,5 +1,6 @@
-// The answer to a case, as text.
+// The answer to a case, as text. Each way to write one says whether it was written.
 use calculator::Cell;
+use libc::STDERR_FILENO;
 use libc::STDOUT_FILENO;
 
 // A number in decimal, and the byte that ends it.
@@ -26,14 +27,6 @@ fn put_bytes(out: &mut [u8], at: usize, bytes: &[u8]) -> usize {
     text::put(out, end, b' ')
 }
 
-// A cell's value is never a NaN. The test says so here.
-fn bits_of(x: f64) -> u64 {
-    if x == x {
-        return f64::to_bits(x);
-    }
-    0
-}
-
 // A cell is a letter and a number.
 fn letter_of(cell: Cell) -> u8 {
     match cell {
@@ -44,12 +37,13 @@ fn letter_of(cell: Cell) -> u8 {
     }
 }
 
+// A cell's value is never a NaN. The test says so here.
 fn number_of(cell: Cell) -> u64 {
     match cell {
         Cell::Refused(report) => report as u64,
         Cell::Blank => 0,
         Cell::Odd => 0,
-        Cell::Value(x) => bits_of(x),
+        Cell::Value(x) => { if x == x { f64::to_bits(x) } else { 0 } }
     }
 }
 
@@ -70,14 +64,26 @@ fn put_seen(out: &mut [u8], at: usize, report: u8, stack: &[u8], depth: usize) -
     put_cell(out, third, calculator::cell(report, stack, depth))
 }
 
+// Whether an answer could be written; if not, standard error says so.
+fn write(bytes: &[u8]) -> bool {
+    let written = io::write_all(STDOUT_FILENO, bytes);
+    if !written {
+        io::write_all(
+            STDERR_FILENO,
+            b"vectors: standard output cannot be written\n",
+        );
+    }
+    written
+}
+
 // A stack of 17,000 bytes and the rest of its answer fit the buffer.
-pub(crate) fn write_answer(report: u8, position: usize, stack: &[u8], depth: usize) {
+pub(crate) fn write_answer(report: u8, position: usize, stack: &[u8], depth: usize) -> bool {
     let mut out = io::large_buffer();
     let next = put_outcome(&mut out, report, position, depth);
     let end = put_seen(&mut out, next, report, stack, depth);
-    io::write_all(STDOUT_FILENO, text::first(&out, end));
+    write(text::first(&out, end))
 }
 
-pub(crate) fn write_malformed() {
-    io::write_all(STDOUT_FILENO, b"?\n");
+pub(crate) fn write_malformed() -> bool {
+    write(b"?\n")
 }

@@ -1,6 +1,6 @@
 // The fields of a line, each from a place on up to the byte that ends it. The place after that byte is answered, and `LOST` where the
 // field can't be read: from there on nothing can.
-ghost use Prim.Native.Nat.{_<_, _≤_};
+ghost use Prim.Native.Nat.{_≤_};
 ghost use lib.ListN.{length};
 
 const LOST: usize = 18446744073709551615;
@@ -11,30 +11,25 @@ pub(crate) struct Field {
     pub(crate) next: usize,
 }
 
-// The place after the byte that ended some digits, if it is the right one and they were whole.
-fn past(at: usize, byte: u8, end: u8, whole: bool) -> usize
-    requires { ⌜ at < 18446744073709551615 ⌝ }
-{
-    if byte == end {
-        if whole {
-            return at + 1;
-        }
+// The place after a byte, where it stands at this place.
+fn past(line: &[u8], at: usize, byte: u8) -> usize {
+    if line.len() <= at {
+        LOST
+    } else if line[at] != byte {
+        LOST
+    } else {
+        at + 1
     }
-    LOST
 }
 
-// A number in decimal, of one digit at least.
+// A number in decimal, of one digit at least. One over 64 bits stops at a digit, which ends no field.
 pub(crate) fn number_at(line: &[u8], at: usize, end: u8) -> Field {
     let mut value = 0;
     let mut i = at;
     while i < line.len() {
-        let c = line[i];
-        let d = text::value_of(c) as usize;
+        let d = text::value_of(line[i]) as usize;
         if 9 < d {
-            return Field {
-                value,
-                next: past(i, c, end, at < i),
-            };
+            break;
         }
         if (18446744073709551615 - d) / 10 < value {
             break;
@@ -42,35 +37,65 @@ pub(crate) fn number_at(line: &[u8], at: usize, end: u8) -> Field {
         value = 10 * value + d;
         i += 1;
     }
-    Field {
-        value: 0,
-        next: LOST,
+    if i == at {
+        Field {
+            value: 0,
+            next: LOST,
+        }
+    } else {
+        Field {
+            value,
+            next: past(line, i, end),
+        }
     }
 }
 
-// Pairs of hexadecimal digits, as the first of at most n bytes. The buffer has zeros before.
-fn hex_at(line: &[u8], at: usize, end: u8, out: &mut [u8], n: usize) -> usize
+// Fills a buffer with what its first bytes are, again and again.
+fn repeat(out: &mut [u8], period: usize) {
+    let mut i = period;
+    while i < out.len() {
+        out[i] = out[i - period];
+        i += 1;
+    }
+}
+
+// The place after so many hexadecimal digits and, where it follows, the sign that their bytes are repeated.
+fn after_digits(line: &[u8], at: usize, out: &mut [u8], digits: usize) -> usize {
+    let star = past(line, at, b'*');
+    if digits % 2 != 0 {
+        LOST
+    } else if star == LOST {
+        at
+    } else if digits == 0 {
+        LOST
+    } else {
+        repeat(out, digits / 2);
+        star
+    }
+}
+
+// Pairs of hexadecimal digits, as the first of at most n bytes; one byte more stops at a digit, which ends no field. The buffer has zeros
+// before.
+fn hex_at(line: &[u8], at: usize, out: &mut [u8], n: usize) -> usize
     requires { ⌜ n ≤ length (now out) ⌝ }
 {
     let mut i = at;
     while i < line.len() {
-        let c = line[i];
-        let d = text::value_of(c);
-        let digits = i - at;
+        let d = text::value_of(line[i]);
         if 15 < d {
-            return past(i, c, end, digits % 2 == 0);
+            break;
         }
-        let k = digits / 2;
+        let k = (i - at) / 2;
         if n <= k {
             break;
         }
         out[k] = out[k] % 16 * 16 + d;
         i += 1;
     }
-    LOST
+    after_digits(line, i, out, i - at)
 }
 
-// LENGTH:HEX, into a buffer of zeros.
+// LENGTH:HEX or LENGTH:HEX*, into a buffer of zeros.
 pub(crate) fn bytes_at(line: &[u8], at: usize, end: u8, out: &mut [u8]) -> Field
     ensures { λ r. ⌜ r .value ≤ length (now (out .entry)) ⌝ }
 {
@@ -82,8 +107,9 @@ pub(crate) fn bytes_at(line: &[u8], at: usize, end: u8, out: &mut [u8]) -> Field
             next: LOST,
         };
     }
+    let stop = hex_at(line, count.next, out, n);
     Field {
         value: n,
-        next: hex_at(line, count.next, end, out, n),
+        next: past(line, stop, end),
     }
 }

@@ -17,7 +17,7 @@ fn main() -> ExitCode {
         }
     };
     let root = Path::new(root);
-    let input = match std::fs::read_to_string(root.join("crates/calc/stdin")) {
+    let input = match std::fs::read(root.join("crates/calc/stdin")) {
         Ok(input) => input,
         Err(error) => {
             eprintln!("crates/calc/stdin: {error}");
@@ -29,7 +29,7 @@ fn main() -> ExitCode {
     for (name, text) in [
         ("crates/vectors/stdin", &v.stdin),
         ("crates/vectors/stdout", &v.stdout),
-        ("crates/calc/stdout", &sheet::answers(&input)),
+        ("crates/calc/stdout", &sheet::follow(&input).answers),
     ] {
         let path = root.join(name);
         if check {

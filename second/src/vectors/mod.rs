@@ -1,14 +1,18 @@
 //! The cases of crates/vectors: groups that each have a reason, in a fixed order.
 
 mod addition;
+mod cells;
+mod deep;
 mod division;
+mod lines;
+mod long;
 mod one_number;
 mod paper;
 mod random;
 mod reports;
 mod runs;
 
-use crate::case::{Call, Case};
+use crate::case::{After, Call, Case};
 use crate::draw::{number, short};
 use crate::{text, Bytes};
 
@@ -22,7 +26,8 @@ pub struct Vectors {
 
 const HEADER: &str = "\
 # Cases for the calculator, made by second/vectors. A line is KIND and DEPTH, STACK, BYTES:
-# o operate, p push, r run; bytes as LENGTH:HEX, where zeros at the end may be left out.
+# o operate, p push, r run, c the view and the cell with a report; bytes as LENGTH:HEX, where
+# zeros at the end may be left out, or as LENGTH:HEX*, repeated up to the length.
 ";
 
 impl Vectors {
@@ -30,10 +35,16 @@ impl Vectors {
         self.stdin.push_str(&format!("\n# {words}\n"));
     }
 
-    fn case(&mut self, case: Case) {
-        self.stdin.push_str(&text::case_line(&case));
+    fn case(&mut self, case: Case) -> After {
+        let after = case.answer();
+        self.line(&text::case_line(&case), &text::answer_line(&after));
+        after
+    }
+
+    fn line(&mut self, line: &str, answer: &str) {
+        self.stdin.push_str(line);
         self.stdin.push('\n');
-        self.stdout.push_str(&text::answer_line(&case.answer()));
+        self.stdout.push_str(answer);
         self.stdout.push('\n');
         self.cases += 1;
     }
@@ -118,5 +129,9 @@ pub fn all() -> Vectors {
     reports::cases(&mut v);
     runs::cases(&mut v);
     random::cases(&mut v);
+    cells::cases(&mut v);
+    deep::cases(&mut v);
+    long::cases(&mut v);
+    lines::cases(&mut v);
     v
 }

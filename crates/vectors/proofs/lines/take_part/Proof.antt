@@ -9,4 +9,4 @@ pub take-part-spec : {M : Type 1} → statement M
 take-part-spec =
     tie.close
     (tie.spec (λ line₀ held part next₀ i₀ line next i. Unit {0}) (λ line₀ held part next₀ i₀ line next i. length part - i)
-    (λ c. tt) (λ c. omega arith) (λ c κs. tt) (λ c. omega arith) (λ c. omega arith) (λ c. tt) (λ c. tt))
+    (λ c. tt) (λ c. omega arith) (λ c κs. tt) (λ c. omega arith) (λ c. omega arith) (λ c. tt) (λ c. tt) (λ c. tt))

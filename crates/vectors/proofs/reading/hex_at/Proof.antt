@@ -9,7 +9,7 @@ use Rattle.vectors.proofs.reading.hex_at.Tie as tie
 pub hex-at-spec : {M : Type 1} → statement M
 hex-at-spec =
     tie.close
-    (tie.spec (λ line at end out₀ n i₀ out i. (at ≤ i) × (length out ≡ length out₀)) (λ line at end out₀ n i₀ out i. length line - i)
-    (λ c. omega arith) (λ c. omega arith) (λ c κs. tt) (λ c. omega arith) (λ c κs. omega arith) (λ c. omega arith) (λ c. tt)
-    (λ c. omega arith) (λ c. omega arith) (λ c. omega arith) (λ c. omega arith) (λ c. omega arith) (λ c. omega arith)
-    (λ c. simp length-set (omega arith)) (λ c. omega arith) (λ c. tt) (λ c. omega arith) (λ c. tt))
+    (tie.spec (λ line at out₀ n i₀ out i. (at ≤ i) × (length out ≡ length out₀)) (λ line at out₀ n i₀ out i. length line - i)
+    (λ c. omega arith) (λ c. omega arith) (λ c κs. tt) (λ c. omega arith) (λ c. omega arith) (λ c. omega arith) (λ c. omega arith)
+    (λ c. omega arith) (λ c. omega arith) (λ c. omega arith) (λ c. simp length-set (omega arith))
+    (λ c. omega arith) (λ c κs. tt) (λ c. omega arith) (λ c. tt))

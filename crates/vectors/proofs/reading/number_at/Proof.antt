@@ -10,5 +10,5 @@ pub number-at-spec : {M : Type 1} → statement M
 number-at-spec =
     tie.close
     (tie.spec (λ line at end value₀ i₀ value i. value < 18446744073709551616) (λ line at end value₀ i₀ value i. length line - i)
-    (λ c. omega arith) (λ c. omega arith) (λ c κs. tt) (λ c. search needs) (λ c κs. omega arith) (λ c. tt) (λ c. omega arith)
-    (λ c. omega arith) (λ c. omega arith) (λ c. omega arith) (λ c. omega arith) (λ c. omega arith) (λ c. tt) (λ c. tt))
+    (λ c. omega arith) (λ c. omega arith) (λ c κs. tt) (λ c. search needs) (λ c. omega arith) (λ c. omega arith)
+    (λ c. omega arith) (λ c. omega arith) (λ c. omega arith) (λ c. omega arith) (λ c κs. tt) (λ c. tt) (λ c. tt))
