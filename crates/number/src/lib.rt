@@ -8,7 +8,6 @@ mod unpacking;
 
 pub use form::Form;
 pub use form::form_of;
-pub use form::is_malformed;
 pub use negation::negate;
 pub use parts::complement;
 pub use parts::full_word;
