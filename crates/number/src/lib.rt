@@ -14,6 +14,7 @@ pub use parts::full_word;
 pub use parts::halves_word;
 pub use parts::joined;
 pub use parts::low_half;
+pub use parts::short_magnitude;
 pub use parts::short_word;
 pub use parts::swapped;
 pub use restacking::re_stack;
