@@ -2,6 +2,7 @@
 // Every function takes any five bytes.
 mod form;
 mod negation;
+mod operand;
 mod parts;
 mod restacking;
 mod unpacking;
@@ -9,6 +10,8 @@ mod unpacking;
 pub use form::Form;
 pub use form::form_of;
 pub use negation::negate;
+pub use operand::Operand;
+pub use operand::short_operand;
 pub use parts::complement;
 pub use parts::full_word;
 pub use parts::halves_word;
