@@ -14,7 +14,7 @@ pub(crate) fn operand(stack: &[u8], depth: usize, above: u8) -> Operand
             malformed: false,
             sign: word,
             m: word,
-            e: b1,
+            e: b1 as u32,
         };
     }
     number::short_operand(slots::word_at(stack, depth, above))

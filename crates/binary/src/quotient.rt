@@ -2,7 +2,7 @@
 use crate::operand::operand;
 use crate::storing::store;
 use literals::table;
-ghost use Prim.Native.Nat.{_^_, _/_};
+ghost use Prim.Native.Nat.{_^_, _/_, _<_};
 ghost use mathlib.Core.Path.{_≡_};
 ghost use mathlib.Core.Bool.{false};
 ghost use Rattle.number.specs.Number.{malformed, fullOf};
@@ -29,9 +29,9 @@ pub fn divide(stack: &mut [u8], depth: &mut usize) -> u8
 }
 
 // With the first number re-stacked.
-fn divided(stack: &mut [u8], depth: &mut usize, old: usize, sign: u32, m: u32, e: u8) -> u8
+fn divided(stack: &mut [u8], depth: &mut usize, old: usize, sign: u32, m: u32, e: u32) -> u8
     requires { ⌜ (now depth ≡ old) × (lacking (now stack) old 2 ≡ false) × (malformed (numberAt (now stack) old 1) ≡ false)
-        × (fullOf (sign / 2 ^ 31) e m ≡ restacked (numberAt (now stack) old 1)) ⌝ }
+        × (e < 256) × (fullOf (sign / 2 ^ 31) e m ≡ restacked (numberAt (now stack) old 1)) ⌝ }
     ensures { λ r. ⌜ operateOf (now (stack .entry)) (now (depth .entry)) 5 ≡ (outcome r (now (depth .exit)), now (stack .exit)) ⌝ }
 {
     let b = operand(stack, old, 0);

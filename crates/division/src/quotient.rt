@@ -16,14 +16,18 @@ fn digits(m: u32, n: u32) -> u64
 }
 
 // Of re-stacked numbers, each by a word with its sign on top, its mantissa and its exponent byte.
-pub fn division(s: u32, m: u32, e: u8, t: u32, n: u32, f: u8) -> Answer
-    ensures { λ r. ⌜ r ≡ restackedQuotient (fullOf (s / 2 ^ 31) e m) (fullOf (t / 2 ^ 31) f n) ⌝ }
+pub fn division(s: u32, m: u32, e: u32, t: u32, n: u32, f: u32) -> Answer
+    ensures { λ r. ⌜ (e < 256 → f < 256 → r ≡ restackedQuotient (fullOf (s / 2 ^ 31) e m) (fullOf (t / 2 ^ 31) f n)) ⌝ }
 {
     if f == 0 {
         return Answer::TooBig;
     }
     if e == 0 {
         return Answer::Done(Number { b1: 0, word: 0 });
+    }
+    // No exponent byte is larger. The compiler knows that of an operand's, and drops the question.
+    if 255 < f {
+        return Answer::TooBig;
     }
     let q = digits(m, n);
     let sign = (s ^ t) / 2147483648;

@@ -25,13 +25,14 @@ packed u = fullOf (u .sign / 2 ^ 31) (u .e) (u .m)
 pub record Unpacks (x : Number) (u : Operand) : Type 0 where
   pub form : u .malformed ≡ malformed x
   pub stands : malformed x ≡ false → packed u ≡ restacked x
+  pub byte : u .e < 256
   pub none : u .e ≡ 0 → packed u ≡ zeros
 
 -- a full number is its own re-stacked form
 pub full-operand : (x : Number) → Bytes x → (x .b1 ≡ 0 → ⊥) → Unpacks x (operand false (x .word) (x .word) (x .b1))
 full-operand x b h =
     let same : x .word % 2 ^ 31 + 2 ^ 31 * (x .word / 2 ^ 31 % 2) ≡ x .word = omega arith in
-    record { form = sym (malformed-full x h); stands = λ m. ap (number (x .b1)) same ∙ sym (restack-full x h); none = λ e. absurd (h e) }
+    record { form = sym (malformed-full x h); stands = λ m. ap (number (x .b1)) same ∙ sym (restack-full x h); byte = omega arith; none = λ e. absurd (h e) }
 
 -- ---- a short number, by the mask that its b2 makes
 

@@ -8,7 +8,7 @@ pub struct Operand {
     pub malformed: bool,
     pub sign: u32,
     pub m: u32,
-    pub e: u8,
+    pub e: u32,
 }
 
 // Of a number whose b1 is 0. Of a well-formed one, b2 is 0 or 255, and a mask of its bits makes two's complement without a branch on the sign.
@@ -39,6 +39,6 @@ pub fn short_operand(word: u32) -> Operand
         malformed: false,
         sign: mask,
         m: v << places,
-        e: (160 - places) as u8,
+        e: 160 - places,
     }
 }

@@ -21,4 +21,4 @@ returns-2 c =
     subst (λ (x : Number). Unpacks x (c .short-operand .result)) (ap₂ number (sym (d .before .if1 .left) ∙ d .before .before .b1-at .ensures) (d .word-at2 .ensures)) (c .short-operand .ensures)
 
 pub operand-spec : {M : Type 1} → statement M
-operand-spec = tie.close (tie.spec (λ c κs. tt) (λ c κs. tt) returns (λ c κs. tt) (λ c κs. tt) returns-2)
+operand-spec = tie.close (tie.spec (λ c κs. tt) (λ c κs. tt) (λ c. omega arith) returns (λ c κs. tt) (λ c κs. tt) returns-2)

@@ -30,13 +30,13 @@ divide-spec =
     let n = t .before .before in
     let o = n .before .operand .ensures in
     let m = sym (o .form) ∙ n .if2 .left in
-    (refl, there (n .before .before .before), m, sym (o .none (t .if3 .taken)) ∙ o .stands m))
+    (refl, there (n .before .before .before), m, omega arith, sym (o .none (t .if3 .taken)) ∙ o .stands m))
     (λ c. search needs)
     (λ c. search needs)
     (λ c κs.
     let n = c .before .before .before .before in
     let o = n .before .operand .ensures in
     let m = sym (o .form) ∙ n .if2 .left in
-    (refl, there (n .before .before .before), m, o .stands m))
+    (refl, there (n .before .before .before), m, o .byte, o .stands m))
     (λ c. search needs)
     (λ c. search needs))

@@ -27,7 +27,7 @@ returns-2 c =
     let b = n .before .operand in
     let i = n .before .before .before .before in
     let m = sym (b .ensures .form) ∙ n .if1 .left in
-    let is = a .division .ensures ∙ ap₂ restackedQuotient (i .pre .3) (b .ensures .stands m) in
+    let is = a .division .ensures (i .pre .3) (b .ensures .byte) ∙ ap₂ restackedQuotient (i .pre .4) (b .ensures .stands m) in
     ap (λ (k : ℕ). operateOf (i .args .stack .now) k 5) (i .pre .0)
     ∙ two-stored _ _ _ quotientOf division-line (i .pre .1) (simp (i .pre .2, m)) _ _ _
     (ap₂ (storedOf (i .args .stack .now)) (sym (i .pre .0)) (sym is) ∙ p .store .ensures)

@@ -18,7 +18,7 @@ returns c =
     let w = c .before .before .args .word in
     let i : (0 < w / 2 ^ 24) × (w / 2 ^ 24 < 255) = omega (arith, c .before .wrapping-sub-u32 .ensures) in
     let m = malformed-between (number 0 w) refl (omega arith) (omega arith) in
-    record { form = sym m; stands = λ f. absurd (let z : _≡_ {A = ℕ} 0 1 = cc (m, f) in omega arith); none = λ e. refl }
+    record { form = sym m; stands = λ f. absurd (let z : _≡_ {A = ℕ} 0 1 = cc (m, f) in omega arith); byte = omega arith; none = λ e. refl }
 
 last : (b k : ℕ) → b < 256 → k < 2 ^ 32 → (k + 1) % 2 ^ 32 ≡ b → 254 ≤ k → 0 < b → b ≡ 255
 last b k h g e n p = omega arith
@@ -32,7 +32,7 @@ made d =
 returns-2 : tie.Need-returns-2
 returns-2 c =
     let m = made (c .before) in
-    record { form = sym (m .formed); stands = λ f. sym (restack-zero (number 0 _) refl (sym (m .away) ∙ c .if2 .taken)); none = λ e. refl }
+    record { form = sym (m .formed); stands = λ f. sym (restack-zero (number 0 _) refl (sym (m .away) ∙ c .if2 .taken)); byte = omega arith; none = λ e. refl }
 
 below : (v : ℕ) → v < 2 ^ 16 → (v ≡ 0 → ⊥) → leadingZeros 32 v < 32
 below v h n = omega (arith, leading-top 32 v (omega arith) (omega arith) .1)
@@ -47,6 +47,7 @@ returns-3 c =
     record {
       form = sym (m .formed);
       stands = λ f. ap (λ (s : ℕ). fullOf s (160 - z) (v * 2 ^ z % 2 ^ 32)) (m .signs) ∙ short-stands _ v z (m .away) (c .if2 .left) refl;
+      byte = omega arith;
       none = λ e. absurd (omega arith);
     }
 
@@ -62,6 +63,5 @@ short-operand-spec =
     (λ c κs. tt)
     returns-2
     (λ c. below _ (omega arith) (c .if2 .left))
-    (λ c. omega (arith, below (c .before .wrapping-sub-u322 .result % 65536) (omega arith) (c .if2 .left)))
     (λ c. omega (arith, below (c .before .wrapping-sub-u322 .result % 65536) (omega arith) (c .if2 .left)))
     returns-3)
