@@ -15,19 +15,18 @@ fn digits(m: u32, n: u32) -> u64
     ((m % 2147483648) as u64 + 2147483648) * 4294967296 / ((n % 2147483648) as u64 + 2147483648)
 }
 
-// Of re-stacked numbers, each by a word with its sign on top, its mantissa and its exponent byte.
+// Of re-stacked numbers, each by a word with its sign on top, its mantissa, and its exponent byte as the low byte of a word. The compiler knows that an
+// operand's has nothing above it, and drops the remainder; of a byte it would not know that it stands in a whole register.
 pub fn division(s: u32, m: u32, e: u32, t: u32, n: u32, f: u32) -> Answer
-    ensures { λ r. ⌜ (e < 256 → f < 256 → r ≡ restackedQuotient (fullOf (s / 2 ^ 31) e m) (fullOf (t / 2 ^ 31) f n)) ⌝ }
+    ensures { λ r. ⌜ r ≡ restackedQuotient (fullOf (s / 2 ^ 31) (e % 256) m) (fullOf (t / 2 ^ 31) (f % 256) n) ⌝ }
 {
-    if f == 0 {
+    let first = e % 256;
+    let second = f % 256;
+    if second == 0 {
         return Answer::TooBig;
     }
-    if e == 0 {
+    if first == 0 {
         return Answer::Done(Number { b1: 0, word: 0 });
-    }
-    // No exponent byte is larger. The compiler knows that of an operand's, and drops the question.
-    if 255 < f {
-        return Answer::TooBig;
     }
     let q = digits(m, n);
     let sign = (s ^ t) / 2147483648;
@@ -38,7 +37,7 @@ pub fn division(s: u32, m: u32, e: u32, t: u32, n: u32, f: u32) -> Answer
     ending::close(
         sign as u8,
         ((q + whole) >> whole) as u32,
-        e as u64 + 128 + 256 - f as u64 + whole,
+        first as u64 + 128 + 256 - second as u64 + whole,
         0,
     )
 }

@@ -28,6 +28,10 @@ pub record Unpacks (x : Number) (u : Operand) : Type 0 where
   pub byte : u .e < 256
   pub none : u .e ≡ 0 → packed u ≡ zeros
 
+-- an exponent byte is its own remainder
+pub packed-byte : (s e m : ℕ) → e < 256 → fullOf s (e % 256) m ≡ fullOf s e m
+packed-byte s e m h = ap (λ (k : ℕ). fullOf s k m) (mod-eq-of-lt h)
+
 -- a full number is its own re-stacked form
 pub full-operand : (x : Number) → Bytes x → (x .b1 ≡ 0 → ⊥) → Unpacks x (operand false (x .word) (x .word) (x .b1))
 full-operand x b h =

@@ -2,6 +2,7 @@
 use borrow.Author.Needs.{needs}
 use Prim.Native.Nat.{ℕ}
 use mathlib.Core.Path.{_≡_, refl, sym, _∙_, ap, ap₂}
+use Rattle.number.specs.Operand.{packed-byte}
 use Rattle.division.specs.Division.{quotientOf, restackedQuotient}
 use Rattle.literals.specs.Operate.{outcome, operateOf}
 use Rattle.literals.specs.WayLaws.{two-malformed}
@@ -27,7 +28,7 @@ returns-2 c =
     let b = n .before .operand in
     let i = n .before .before .before .before in
     let m = sym (b .ensures .form) ∙ n .if1 .left in
-    let is = a .division .ensures (i .pre .3) (b .ensures .byte) ∙ ap₂ restackedQuotient (i .pre .4) (b .ensures .stands m) in
+    let is = a .division .ensures ∙ ap₂ restackedQuotient (packed-byte _ _ _ (i .pre .3) ∙ i .pre .4) (packed-byte _ _ _ (b .ensures .byte) ∙ b .ensures .stands m) in
     ap (λ (k : ℕ). operateOf (i .args .stack .now) k 5) (i .pre .0)
     ∙ two-stored _ _ _ quotientOf division-line (i .pre .1) (simp (i .pre .2, m)) _ _ _
     (ap₂ (storedOf (i .args .stack .now)) (sym (i .pre .0)) (sym is) ∙ p .store .ensures)

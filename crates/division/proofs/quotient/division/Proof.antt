@@ -11,22 +11,22 @@ use Rattle.division.specs.DivisionLaws.{quotient-by-zero, quotient-of-ze
 use Rattle.division.proofs.quotient.division.Statement.{statement}
 use Rattle.division.proofs.quotient.division.Tie as tie
 
-returns-4 : tie.Need-returns-4
-returns-4 c he hf =
+returns-3 : tie.Need-returns-3
+returns-3 c =
     let d = c .before in
-    let i = d .before .before .before .before .args in
-    let x = fullOf (i .s / 2 ^ 31) (i .e) (i .m) in
-    let y = fullOf (i .t / 2 ^ 31) (i .f) (i .n) in
+    let i = d .before .before .before .args in
+    let x = fullOf (i .s / 2 ^ 31) (i .e % 256) (i .m) in
+    let y = fullOf (i .t / 2 ^ 31) (i .f % 256) (i .n) in
     let q = d .digits .result in
     let w = q / 2 ^ 32 in
     let sx : i .s / 2 ^ 31 ≡ sign x = omega arith in
     let sy : i .t / 2 ^ 31 ≡ sign y = omega arith in
     let mx : i .m % 2 ^ 31 + 2 ^ 31 ≡ mantissa x = omega arith in
     let my : i .n % 2 ^ 31 + 2 ^ 31 ≡ mantissa y = omega arith in
-    let fx : IsFull x = record { bytes = record { b1< = he; word< = omega arith }; first = omega arith } in
-    let fy : IsFull y = record { bytes = record { b1< = hf; word< = omega arith }; first = omega arith } in
+    let fx : IsFull x = record { bytes = record { b1< = omega arith; word< = omega arith }; first = omega arith } in
+    let fy : IsFull y = record { bytes = record { b1< = omega arith; word< = omega arith }; first = omega arith } in
     c .close .ensures
-    ∙ ap (λ (k : ℕ). closed k (loose ((q + w) / 2 ^ w) (i .e + 128 + 256 - i .f + w) 0))
+    ∙ ap (λ (k : ℕ). closed k (loose ((q + w) / 2 ^ w) (i .e % 256 + 128 + 256 - i .f % 256 + w) 0))
     (signs-differ (i .s) (i .t) (omega arith) (omega arith) ∙ ap₂ (λ (a b : ℕ). (a + b) % 2) sx sy)
     ∙ sym (quotient-closed x y fx fy (d .digits .ensures .0 ∙ ap₂ (λ (a b : ℕ). rounds33 a b .digits) mx my) w refl (omega arith))
 
@@ -34,11 +34,10 @@ pub division-spec : {M : Type 1} → statement M
 division-spec =
     tie.close
     (tie.spec
-    (λ c he hf. sym (quotient-by-zero _ _ (c .if1 .taken)))
-    (λ c he hf. sym (quotient-of-zero _ _ (c .before .if1 .left) (c .if2 .taken)))
-    (λ c he hf. absurd (omega arith))
+    (λ c. sym (quotient-by-zero _ _ (c .if1 .taken)))
+    (λ c. sym (quotient-of-zero _ _ (c .before .if1 .left) (c .if2 .taken)))
     (λ c κs. tt)
-    (λ c. let i = c .before .before .before .before .args in omega (arith, signs-differ (i .s) (i .t) (omega arith) (omega arith)))
+    (λ c. let i = c .before .before .before .args in omega (arith, signs-differ (i .s) (i .t) (omega arith) (omega arith)))
     (λ c. omega arith)
     (λ c. omega arith)
     (λ c. omega (arith, quotient-fits (c .digits .result) (omega arith)))
@@ -46,5 +45,7 @@ division-spec =
     (λ c. omega arith)
     (λ c. omega arith)
     (λ c. omega arith)
+    (λ c. omega arith)
+    (λ c. omega arith)
     (λ c κs. tt)
-    returns-4)
+    returns-3)
