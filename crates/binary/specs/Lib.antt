@@ -1,2 +1,3 @@
+pub mod Quotient
 pub mod Stored
 pub mod Sum

@@ -1,5 +1,6 @@
 // The literals that take two numbers and look at their forms: subtract, divide and add. The lower operand is the first, and the result stands in
 // its slot.
+mod operand;
 mod quotient;
 mod storing;
 mod sum;

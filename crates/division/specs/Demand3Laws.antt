@@ -123,14 +123,15 @@ module _ (s a b m n : ℕ) (are : Mantissas m n) (bh : b < 256) where
 module _ (x y : Number) (bx : Bytes x) (by : Bytes y) where
   pub demand3 : ¬ CountsAsZero x → ¬ CountsAsZero y →
       Demand3 (mantissa (restacked x)) (mantissa (restacked y)) (restacked x .b1) (restacked y .b1) (quotientOf x y)
-  unfolding fullQuotient
+  unfolding quotientOf fullQuotient
   demand3 nx ny =
       let f = restacked-full x bx nx in
       let g = restacked-full y by ny in
-      rw (quotient-full x y f g) (plain-demand3 _ _ _ _ _ (omega arith) (omega arith))
+      rw (quotient-full (restacked x) (restacked y) f g) (plain-demand3 _ _ _ _ _ (omega arith) (omega arith))
 
   -- report 6 of any two
   pub quotient-too-big : (quotientOf x y ≡ TooBig) ↔ QuotientTooBig x y
+  unfolding quotientOf
   quotient-too-big = ((λ e. only e (eq-zero-or-pos (restacked x .b1)) (eq-zero-or-pos (restacked y .b1))), so)
     where
       other : (z : Number) → 0 < z .b1 → ¬ (z ≡ zeros)
@@ -138,9 +139,9 @@ module _ (x y : Number) (bx : Bytes x) (by : Bytes y) where
 
       only : quotientOf x y ≡ TooBig → (restacked x .b1 ≡ 0) ⊎ (0 < restacked x .b1) → (restacked y .b1 ≡ 0) ⊎ (0 < restacked y .b1) → QuotientTooBig x y
       only e p (inl z) = inl (restacked-zero y by z)
-      only e (inl z) (inr q) = absurd (let d = quotient-of-zero x y (omega arith) z in let o : _≡_ {A = ℕ} 0 1 = cc in omega arith)
+      only e (inl z) (inr q) = absurd (let d = quotient-of-zero (restacked x) (restacked y) (omega arith) z in let o : _≡_ {A = ℕ} 0 1 = cc in omega arith)
       only e (inr p) (inr q) = let nx = other (restacked x) p in let ny = other (restacked y) q in inr (nx, ny, demand3 nx ny .report6 .0 e)
 
       so : QuotientTooBig x y → quotientOf x y ≡ TooBig
-      so (inl z) = quotient-by-zero x y (ap (λ (n : Number). n .b1) z)
+      so (inl z) = quotient-by-zero (restacked x) (restacked y) (ap (λ (n : Number). n .b1) z)
       so (inr (nx, ny, e)) = demand3 nx ny .report6 .1 e

@@ -3,19 +3,15 @@ use mathlib.Core.Path.{_≡_, refl, sym, _∙_, ap, ap₂}
 use Prim.Native.Nat.{ℕ, zero, suc, _+_, _*_, _-_, _^_, _/_, _%_, _≤_, _<_}
 use native.Mathlib.Omega.{arith}
 use borrow.Author.Tests.{eq-eqb, ne-eqb}
+use lib.Bits.{bitXor, xor-shr}
 use Rattle.number.specs.declared.Number.{Number}
-use Rattle.number.specs.declared.unpacking.Unpacked.{Unpacked}
 use Rattle.number.specs.Number.{zeros, sign, mantissa}
-use Rattle.number.specs.NumberLaws.{Bytes}
-use Rattle.number.specs.Restack.{restacked}
-use Rattle.number.specs.RestackValue.{restacked-bytes}
-use Rattle.number.specs.Unpack.{unpackedOf}
 use Rattle.ending.specs.declared.answer.Answer.the-variants.{Done, TooBig}
 use Rattle.ending.specs.Ending.{loose, normal, rounded, closed, ended}
 use Rattle.ending.specs.EndingLaws.{rounded-below, closed-rounded, ended-set, ended-once}
 use Rattle.division.specs.Rounds.{Mantissas, rounds33, digit34}
 use Rattle.division.specs.RoundsLaws.{Writes, quotient-law, writes-div, writes-at-least, writes-below, digit34-zero}
-use Rattle.division.specs.Division.{endedRounds, fullQuotient, restackedQuotient, quotientOf}
+use Rattle.division.specs.Division.{endedRounds, fullQuotient, restackedQuotient}
 use Rattle.division.specs.Operand.{IsFull}
 
 -- The 33 digits are the whole quotient of m * 2^32 by n: the quotient law at 32 later rounds.
@@ -61,67 +57,60 @@ module _ (m n : ℕ) (are : Mantissas m n) where
     pub ended-whole : 2 ^ 32 ≤ Q → endedRounds s e n (rounds33 m n) ≡ closed s (loose (Q / 2) e (Q % 2))
     ended-whole h = ended-rounds ∙ ended-set s (Q / 2) e (Q % 2) (omega arith)
 
+-- of re-stacked numbers, a law a way through
 module _ (x y : Number) where
-  pub quotient-by-zero : restacked y .b1 ≡ 0 → quotientOf x y ≡ TooBig
-  unfolding quotientOf restackedQuotient
+  pub quotient-by-zero : y .b1 ≡ 0 → restackedQuotient x y ≡ TooBig
+  unfolding restackedQuotient
   quotient-by-zero h = simp (eq-eqb _ _ h)
 
-  pub quotient-of-zero : (restacked y .b1 ≡ 0 → ⊥) → restacked x .b1 ≡ 0 → quotientOf x y ≡ Done zeros
-  unfolding quotientOf restackedQuotient
+  pub quotient-of-zero : (y .b1 ≡ 0 → ⊥) → x .b1 ≡ 0 → restackedQuotient x y ≡ Done zeros
+  unfolding restackedQuotient
   quotient-of-zero h g = simp (ne-eqb _ _ h, eq-eqb _ _ g)
 
-  pub quotient-full : IsFull (restacked x) → IsFull (restacked y) → quotientOf x y ≡ fullQuotient (restacked x) (restacked y)
-  unfolding quotientOf restackedQuotient
-  quotient-full f g = simp (ne-eqb (restacked y .b1) 0 (omega arith), ne-eqb (restacked x .b1) 0 (omega arith))
+  pub quotient-full : IsFull x → IsFull y → restackedQuotient x y ≡ fullQuotient x y
+  unfolding restackedQuotient
+  quotient-full f g = simp (ne-eqb (y .b1) 0 (omega arith), ne-eqb (x .b1) 0 (omega arith))
 
--- What `unpack` gives of a number that does not count as zero: the parts of a full number.
-pub record Parts (x : Number) (a : Unpacked) : Type 0 where
-  pub full : IsFull (restacked x)
-  pub sign-is : a .sign ≡ sign (restacked x)
-  pub m-is : a .m ≡ mantissa (restacked x)
-  pub e-is : a .e ≡ restacked x .b1
+-- Of two full numbers, where q is the 33 digits: with one doubling, and with none.
+module _ (x y : Number) (f : IsFull x) (g : IsFull y) {q : ℕ} (h : q ≡ rounds33 (mantissa x) (mantissa y) .digits) where
+  abbrev s : ℕ
+  s = (sign x + sign y) % 2
 
-module _ (x : Number) {a : Unpacked} (is : a ≡ unpackedOf x) where
-  pub exponent-is : a .e ≡ restacked x .b1
-  unfolding unpackedOf
-  exponent-is = ap (λ (u : Unpacked). u .e) is
+  abbrev e : ℕ
+  e = x .b1 + 129 + 256 - y .b1
 
-  pub parts-of : Bytes x → (a .e ≡ 0 → ⊥) → Parts x a
-  unfolding unpackedOf
-  parts-of b n =
-      let e = exponent-is in
-      record {
-        full = record { bytes = restacked-bytes x b; first = omega arith };
-        sign-is = ap (λ (u : Unpacked). u .sign) is;
-        m-is = ap (λ (u : Unpacked). u .m) is ∙ simp (ne-eqb (restacked x .b1) 0 (omega arith));
-        e-is = e;
-      }
-
--- By the parts, where q is the 33 digits: with one doubling, and with none.
-module _ (x y : Number) {a b : Unpacked} (p : Parts x a) (r : Parts y b) {q : ℕ} (h : q ≡ rounds33 (a .m) (b .m) .digits) where
-  parts-quotient : quotientOf x y ≡ endedRounds ((a .sign + b .sign) % 2) (a .e + 129 + 256 - b .e) (b .m) (rounds33 (a .m) (b .m))
+  quotient-ended : restackedQuotient x y ≡ endedRounds s e (mantissa y) (rounds33 (mantissa x) (mantissa y))
   unfolding fullQuotient
-  parts-quotient = rw (p .sign-is, p .m-is, p .e-is, r .sign-is, r .m-is, r .e-is) (quotient-full x y (p .full) (r .full))
-
-  quotient-doubled : q < 2 ^ 32 → quotientOf x y ≡ closed ((a .sign + b .sign) % 2) (loose q (a .e + 129 + 256 - b .e - 1) 0)
-  quotient-doubled g = rw h (parts-quotient ∙ ended-doubled _ _ (omega arith) _ _ (omega arith))
-
-  quotient-whole : 2 ^ 32 ≤ q → quotientOf x y ≡ closed ((a .sign + b .sign) % 2) (loose (q / 2) (a .e + 129 + 256 - b .e) (q % 2))
-  quotient-whole g = rw h (parts-quotient ∙ ended-whole _ _ (omega arith) _ _ (omega arith))
+  quotient-ended = quotient-full x y f g
 
   -- both at once: w is 1 where there is no doubling, and 0 where there is one
   pub quotient-closed : (w : ℕ) → w ≡ q / 2 ^ 32 → q < 2 ^ 33
-      → quotientOf x y ≡ closed ((a .sign + b .sign) % 2) (loose ((q + w) / 2 ^ w) (a .e + 128 + 256 - b .e + w) 0)
+      → restackedQuotient x y ≡ closed s (loose ((q + w) / 2 ^ w) (x .b1 + 128 + 256 - y .b1 + w) 0)
   quotient-closed zero i l =
-      let byte = r .full .bytes .b1< in
-      quotient-doubled (omega (arith, i))
-      ∙ ap₂ (λ (t e : ℕ). closed ((a .sign + b .sign) % 2) (loose t e 0)) (omega arith) (omega (arith, byte, r .e-is))
+      let below : q < 2 ^ 32 = omega (arith, i) in
+      quotient-ended
+      ∙ ended-doubled _ _ (omega arith) _ _ (omega arith)
+      ∙ ap₂ (λ (t k : ℕ). closed s (loose t k 0)) (omega arith) (omega arith)
   quotient-closed (suc zero) i l =
-      let byte = r .full .bytes .b1< in
-      quotient-whole (omega (arith, i))
-      ∙ sym (closed-rounded ((a .sign + b .sign) % 2) (loose (q / 2) (a .e + 129 + 256 - b .e) (q % 2)))
-      ∙ ap₂ (λ (t e : ℕ). closed ((a .sign + b .sign) % 2) (loose t e 0)) (omega arith) (omega (arith, byte, r .e-is))
+      let above : 2 ^ 32 ≤ q = omega (arith, i) in
+      quotient-ended
+      ∙ ended-whole _ _ (omega arith) _ _ (omega arith)
+      ∙ sym (closed-rounded s (loose (rounds33 (mantissa x) (mantissa y) .digits / 2) e (rounds33 (mantissa x) (mantissa y) .digits % 2)))
+      ∙ ap₂ (λ (t k : ℕ). closed s (loose t k 0)) (omega arith) (omega arith)
   quotient-closed (suc (suc w)) i l = absurd (omega (arith, i))
+
+-- whether the signs on top of two words differ
+pub signs-differ : (s t : ℕ) → s < 2 ^ 32 → t < 2 ^ 32 → bitXor s t / 2 ^ 31 ≡ (s / 2 ^ 31 + t / 2 ^ 31) % 2
+signs-differ s t h g = xor-shr s t 31 ∙ go (s / 2 ^ 31) (t / 2 ^ 31) (omega arith) (omega arith)
+  where
+    go : (a b : ℕ) → a < 2 → b < 2 → bitXor a b ≡ (a + b) % 2
+    go zero zero i j = refl
+    go zero (suc zero) i j = refl
+    go (suc zero) zero i j = refl
+    go (suc zero) (suc zero) i j = refl
+    go (suc (suc a)) b i j = absurd (omega arith)
+    go zero (suc (suc b)) i j = absurd (omega arith)
+    go (suc zero) (suc (suc b)) i j = absurd (omega arith)
 
 -- and it fits 32 bits
 pub quotient-fits : (q : ℕ) → q < 2 ^ 33 - 1 → (q + q / 2 ^ 32) / 2 ^ (q / 2 ^ 32) < 2 ^ 32

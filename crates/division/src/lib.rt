@@ -1,4 +1,4 @@
-// Division of five-byte numbers by value. It takes any five bytes for a number.
+// Division of re-stacked numbers by value.
 mod quotient;
 
 pub use quotient::division;

@@ -2,42 +2,42 @@
 use ending::Answer;
 use number::Number;
 ghost use mathlib.Core.Path.{_≡_};
-ghost use Prim.Native.Nat.{_^_, _≤_, _<_};
+ghost use Prim.Native.Nat.{_+_, _-_, _^_, _/_, _%_, _<_};
+ghost use Rattle.number.specs.Number.{fullOf};
 ghost use Rattle.division.specs.Rounds.{rounds33};
-ghost use Rattle.division.specs.Division.{quotientOf};
+ghost use Rattle.division.specs.Division.{restackedQuotient};
 
-// The 33 digits of the mantissas' quotient, read as one binary number. That the dividend's top bit is set is said once more for the compiler,
-// which else asks at run time whether a shorter division would do.
-fn digits(m: u64, n: u64) -> u64
-    requires { ⌜ (2 ^ 31 ≤ m) × (m < 2 ^ 32) × (2 ^ 31 ≤ n) × (n < 2 ^ 32) ⌝ }
-    ensures { λ r. ⌜ (r ≡ rounds33 m n .digits) × (r < 2 ^ 33) ⌝ }
+// The 33 digits of the mantissas' quotient, read as one binary number. A mantissa's top bit goes without saying. It is set here, which also spares
+// the question at run time whether a shorter division would do.
+fn digits(m: u32, n: u32) -> u64
+    ensures { λ r. ⌜ (r ≡ rounds33 (m % 2 ^ 31 + 2 ^ 31) (n % 2 ^ 31 + 2 ^ 31) .digits) × (r < 2 ^ 33 - 1) ⌝ }
 {
-    (m % 2147483648 + 2147483648) * 4294967296 / n
+    ((m % 2147483648) as u64 + 2147483648) * 4294967296 / ((n % 2147483648) as u64 + 2147483648)
 }
 
-pub fn division(x: Number, y: Number) -> Answer
-    ensures { λ r. ⌜ r ≡ quotientOf x y ⌝ }
+// Of re-stacked numbers, each by a word with its sign on top, its mantissa, and its exponent byte as the low byte of a word. The compiler knows that an
+// operand's has nothing above it, and drops the remainder; of a byte it would not know that it stands in a whole register.
+pub fn division(s: u32, m: u32, e: u32, t: u32, n: u32, f: u32) -> Answer
+    ensures { λ r. ⌜ r ≡ restackedQuotient (fullOf (s / 2 ^ 31) (e % 256) m) (fullOf (t / 2 ^ 31) (f % 256) n) ⌝ }
 {
-    let b = number::unpack(Number {
-        b1: y.b1,
-        word: y.word,
-    });
-    if b.e == 0 {
+    let first = e % 256;
+    let second = f % 256;
+    if second == 0 {
         return Answer::TooBig;
     }
-    let a = number::unpack(Number {
-        b1: x.b1,
-        word: x.word,
-    });
-    if a.e == 0 {
+    if first == 0 {
         return Answer::Done(Number { b1: 0, word: 0 });
     }
-    // The ending keeps an exponent as e + 256.
-    let e = a.e as u64 + 128 + 256 - b.e as u64;
-    let q = digits(a.m, b.m);
-    let sign = (a.sign + b.sign) % 2;
+    let q = digits(m, n);
+    let sign = (s ^ t) / 2147483648;
     // A quotient below 2^32 needs one doubling, which takes in digit 33 and lowers the exponent. Any other is rounded by it. Which it is, is as good
     // as random, so the shift goes by it and no branch does.
     let whole = q / 4294967296;
-    ending::close(sign, ((q + whole) >> whole) as u32, e + whole, 0)
+    // The ending keeps an exponent as e + 256.
+    ending::close(
+        sign as u8,
+        ((q + whole) >> whole) as u32,
+        first as u64 + 128 + 256 - second as u64 + whole,
+        0,
+    )
 }

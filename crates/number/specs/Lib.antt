@@ -9,3 +9,4 @@ pub mod RestackValue
 pub mod Unpack
 pub mod Negate
 pub mod NegateLaws
+pub mod Operand

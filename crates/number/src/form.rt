@@ -1,7 +1,7 @@
 // The four forms of a number.
 use super::Number;
 ghost use mathlib.Core.Path.{_≡_};
-ghost use Rattle.number.specs.Number.{formOf, malformed};
+ghost use Rattle.number.specs.Number.{formOf};
 
 pub enum Form {
     Full,
@@ -27,16 +27,4 @@ pub fn form_of(x: Number) -> Form
         return Form::Odd;
     }
     Form::Short
-}
-
-pub fn is_malformed(x: Number) -> bool
-    ensures { λ r. ⌜ r ≡ malformed x ⌝ }
-{
-    if x.b1 != 0 {
-        return false;
-    }
-    if x.word < 16777216 {
-        return false;
-    }
-    x.word < 4278190080
 }

@@ -2,19 +2,22 @@
 // Every function takes any five bytes.
 mod form;
 mod negation;
+mod operand;
 mod parts;
 mod restacking;
 mod unpacking;
 
 pub use form::Form;
 pub use form::form_of;
-pub use form::is_malformed;
 pub use negation::negate;
+pub use operand::Operand;
+pub use operand::short_operand;
 pub use parts::complement;
 pub use parts::full_word;
 pub use parts::halves_word;
 pub use parts::joined;
 pub use parts::low_half;
+pub use parts::short_magnitude;
 pub use parts::short_word;
 pub use parts::swapped;
 pub use restacking::re_stack;

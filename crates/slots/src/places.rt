@@ -39,18 +39,23 @@ pub fn word_at(stack: &[u8], depth: usize, above: u8) -> u32
     number::swapped(four_in(stack, depth - nth))
 }
 
-// The word is looked at only where b1 is 0: a full number has no form to test.
+// By two bytes alone: a full number has no form to test, and of any other b2 decides.
 pub fn malformed_at(stack: &[u8], depth: usize, above: u8) -> bool
     ensures { λ r. ⌜ r ≡ malformed (numberAt (now (stack .entry)) depth above) ⌝ }
 {
-    let b1 = b1_at(stack, depth, above);
-    if b1 != 0 {
+    let nth = above as usize + 1;
+    if lacks(stack, depth, nth) {
         return false;
     }
-    number::is_malformed(Number {
-        b1,
-        word: word_at(stack, depth, above),
-    })
+    let at = 5 * (depth - nth);
+    if stack[at] != 0 {
+        return false;
+    }
+    let b2 = stack[at + 1];
+    if b2 == 0 {
+        return false;
+    }
+    b2 != 255
 }
 
 // Lowest byte first, in a function of its own: the compiler stores them at once.

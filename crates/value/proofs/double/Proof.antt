@@ -4,20 +4,22 @@ use Prim.Native.Nat.{ℕ, zero, suc, _+_, _*_, _^_, _/_, _%_, _≤_, _<_}
 use mathlib.Core.Path.{_≡_, refl, sym, _∙_, ap, subst}
 use mathlib.Core.Bool.{Bool, true, false, not, cond}
 use borrow.Author.Needs.{needs}
-use borrow.Author.Tests.{lt-leb, eq-eqb, ne-eqb}
+use borrow.Author.Tests.{lt-leb, ne-eqb}
 use native.Mathlib.Nat.{mul-assoc, mul-pos}
 use native.Mathlib.Omega.{arith}
-use lib.Dec.{T, ltb, le→leb}
+use lib.Dec.{T, ltb, eqb}
 use lib.Arith.{le→nltb}
 use lib.Pow.{pow-add, pow-pos}
-use lib.Ieee.{Float, Format, inf, binary64, inFloat, nanBits, ofBits, ofFields, ofInt, neg, odd, units, round, mul, ones, hid, top, prec, emax, low}
+use lib.Ieee.{Float, Format, inf, binary64, nanBits, ofBits, ofFields, ofInt, neg, odd, units, round, mul, ones, hid, top, prec, emax, low}
 use lib.Ieee.Back.{round-whole}
 use lib.Ieee.Bits.{nanBits-above}
 use lib.Ieee.Exact.{HasValue, odd-sign}
 use lib.Ieee.Fits.{round-is}
 use lib.Ieee.Positive.{mul-at, positive-of-value}
 use lib.Ieee.Scale.{round-same}
-use Rattle.value.specs.Double.{doubleOfFull, double-zero, mantissa-range, double-some}
+use Rattle.number.specs.declared.Number.{Number}
+use Rattle.number.specs.Number.{number, sign, mantissa}
+use Rattle.value.specs.Double.{doubleOfFull, doubleOf, double-full}
 use Rattle.value.proofs.double.Statement.{statement}
 use Rattle.value.proofs.double.Tie as tie
 
@@ -84,39 +86,30 @@ neg-full m e =
     ap neg (round-is binary64 false (m * 2 ^ e) (2 ^ 160)) ∙ neg-units binary64 _ _ ∙ sym (round-is binary64 true (m * 2 ^ e) (2 ^ 160))
 
 returns : tie.Need-returns
-unfolding ofBits
-returns c = sym (double-zero _ (c .before .before .unpack .ensures) (omega arith))
+returns c = let e : c .before .before .args .x .b1 ≡ 0 = c .before .if1 .taken in c .whole .ensures ∙ ap (λ (b : ℕ). doubleOf (number b (c .before .before .args .x .word))) (sym e)
 
-int-to-float-v : tie.Need-int-to-float-v
-unfolding inFloat
-int-to-float-v c =
-    let y = c .before .before .before .unpack in
-    le→leb (y .result .m) (2 ^ 53) (omega (arith, mantissa-range _ (y .ensures) (c .before .if1 .left)))
+-- a full number's double, by its sign
+full : (x : Number) (s : ℕ) → sign x ≡ s → (x .b1 ≡ 0 → ⊥) → doubleOfFull (eqb s 1) (mantissa x) (x .b1) ≡ doubleOf x
+full x s e h = sym (double-full x h ∙ ap (λ (t : ℕ). doubleOfFull (eqb t 1) (mantissa x) (x .b1)) e)
 
 returns-2 : tie.Need-returns-2
 unfolding ofInt
 returns-2 c =
-    let n = c .before .before .before .before in
-    let y = n .before .before .unpack in
-    ap neg (product _ _ (mantissa-range _ (y .ensures) (n .if1 .left)) (omega arith))
-    ∙ neg-full _ _
-    ∙ sym (double-some _ (y .ensures) (n .if1 .left) ∙ simp (eq-eqb _ _ (c .if2 .taken)))
+    let n = c .before .before in
+    ap neg (product _ _ (omega arith) (omega arith)) ∙ neg-full _ _ ∙ full _ 1 (omega arith) (n .if1 .left)
 
 returns-3 : tie.Need-returns-3
 unfolding ofInt
-returns-3 c =
-    let n = c .before .before .before .before in
-    let y = n .before .before .unpack in
-    product _ _ (mantissa-range _ (y .ensures) (n .if1 .left)) (omega arith)
-    ∙ sym (double-some _ (y .ensures) (n .if1 .left) ∙ simp (ne-eqb _ _ (c .if2 .left)))
+returns-3 c = let n = c .before .before in product _ _ (omega arith) (omega arith) ∙ full _ 0 (omega arith) (n .if1 .left)
 
 pub double-spec : {M : Type 1} → statement M
 double-spec =
     tie.close
     (tie.spec
-    (λ c κs. search needs)
+    (λ c κs. tt)
     returns
-    int-to-float-v
+    (λ c. search needs)
+    (λ c. search needs)
     (λ c. search needs)
     (λ c. search needs)
     (λ c. search needs)

@@ -1,39 +1,18 @@
 -- `divide` meets its contract: each way out is a case of the operation.
 use borrow.Author.Needs.{needs}
-use mathlib.Core.Path.{_≡_, refl, sym, _∙_, ap, ap₂}
+use mathlib.Core.Path.{_≡_, refl, sym, _∙_}
 use mathlib.Core.Bool.{false}
-use Rattle.number.specs.Number.{number}
+use native.Mathlib.Omega.{arith}
 use Rattle.division.specs.Division.{quotientOf}
 use Rattle.slots.specs.Reach.{lacking}
-use Rattle.literals.specs.Literals.{two, row, rowOf}
 use Rattle.literals.specs.WayLaws.{two-lacking, two-malformed}
-use Rattle.binary.specs.Stored.{storedOf, two-stored}
+use Rattle.binary.specs.Quotient.{division-line}
 use Rattle.binary.proofs.quotient.divide.Statement.{statement}
 use Rattle.binary.proofs.quotient.divide.Tie as tie
-
-line : rowOf 5 ≡ row 5 (two quotientOf) 2 1
-unfolding rowOf
-line = refl
 
 -- both numbers are there
 there : (c : tie.Else1) → lacking (c .before .before .before .before .before .args .stack .now) (c .before .before .before .before .before .args .depth .now) 2 ≡ false
 there c = sym (c .before .lacks .ensures) ∙ c .if1 .left
-
-returns-3 : tie.Need-returns-3
-returns-3 c =
-    let m = c .before .before .before in
-    two-malformed _ _ _ quotientOf line (there (c .before .before .before .before .before .before))
-    (simp (sym (m .before .malformed-at .ensures) ∙ m .if2 .left, sym (c .before .malformed-at2 .ensures) ∙ c .if3 .taken))
-
-returns-4 : tie.Need-returns-4
-returns-4 c =
-    let p = c .before .before in
-    let a = p .before .before .before in
-    let n = c .before .before .before .before .before .before .before .before .before .before .before .before .before .before in
-    let m = n .before .before .before in
-    two-stored _ _ _ quotientOf line (there (c .before .before .before .before .before .before .before .before .before .before .before .before .before .before .before .before .before .before .before .before))
-    (simp (sym (m .before .malformed-at .ensures) ∙ m .if2 .left, sym (n .before .malformed-at2 .ensures) ∙ n .if3 .left)) _ _ _
-    (ap (storedOf _ _) (sym (a .division .ensures ∙ ap₂ quotientOf (ap₂ number (a .before .before .before .before .before .before .before .b1-at .ensures) (a .before .before .before .before .before .word-at .ensures)) (ap₂ number (a .before .before .before .b1-at2 .ensures) (a .before .word-at2 .ensures)))) ∙ p .store .ensures)
 
 pub divide-spec : {M : Type 1} → statement M
 divide-spec =
@@ -42,18 +21,22 @@ divide-spec =
     (λ c κs. tt)
     (λ c κs. tt)
     (λ c. search needs)
-    (λ c. let t = c .before .before in two-lacking _ _ _ quotientOf line (sym (t .before .lacks .ensures) ∙ t .if1 .taken) _ (c .refusal .ensures))
+    (λ c. let t = c .before .before in two-lacking _ _ _ quotientOf division-line (sym (t .before .lacks .ensures) ∙ t .if1 .taken) _ (c .refusal .ensures))
     (λ c κs. tt)
     (λ c. search needs)
-    (λ c. two-malformed _ _ _ quotientOf line (there (c .before .before .before)) (simp (sym (c .before .malformed-at .ensures) ∙ c .if2 .taken)))
-    (λ c κs. tt)
+    (λ c. two-malformed _ _ _ quotientOf division-line (there (c .before .before .before)) (simp (sym (c .before .operand .ensures .form) ∙ c .if2 .taken)))
+    (λ c κs.
+    let t = c .before .before in
+    let n = t .before .before in
+    let o = n .before .operand .ensures in
+    let m = sym (o .form) ∙ n .if2 .left in
+    (refl, there (n .before .before .before), m, omega arith, sym (o .none (t .if3 .taken)) ∙ o .stands m))
     (λ c. search needs)
-    returns-3
-    (λ c κs. tt)
-    (λ c κs. tt)
-    (λ c κs. tt)
-    (λ c κs. tt)
-    (λ c κs. tt)
-    (λ c κs. (refl, there (c .before .before .before .before .before .before .before .before .before .before .before .before .before .before .before .before .before), refl, refl))
     (λ c. search needs)
-    returns-4)
+    (λ c κs.
+    let n = c .before .before .before .before in
+    let o = n .before .operand .ensures in
+    let m = sym (o .form) ∙ n .if2 .left in
+    (refl, there (n .before .before .before), m, o .byte, o .stands m))
+    (λ c. search needs)
+    (λ c. search needs))

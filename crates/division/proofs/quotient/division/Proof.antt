@@ -1,55 +1,51 @@
--- `division` meets its contract: each return is a law of `quotientOf`. Where neither number counts as zero, what `unpack` gave are the parts of two
--- full numbers, and the laws close with the digits of the 33 rounds.
-use mathlib.Core.Path.{refl, sym, _∙_}
+-- `division` meets its contract: each return is a law of `restackedQuotient`. Where neither number is zero, the laws close with the digits of the 33
+-- rounds.
+use Prim.Native.Nat.{ℕ, _+_, _*_, _-_, _^_, _/_, _%_}
+use mathlib.Core.Path.{_≡_, refl, sym, _∙_, ap, ap₂}
 use native.Mathlib.Omega.{arith}
-use Rattle.division.specs.DivisionLaws.{Parts, quotient-by-zero, quotient-of-zero, exponent-is, parts-of, rounds33-below, quotient-closed, quotient-fits}
+use Rattle.number.specs.Number.{sign, mantissa, fullOf}
+use Rattle.ending.specs.Ending.{loose, closed}
+use Rattle.division.specs.Rounds.{rounds33}
+use Rattle.division.specs.Operand.{IsFull}
+use Rattle.division.specs.DivisionLaws.{quotient-by-zero, quotient-of-zero, quotient-closed, quotient-fits, signs-differ}
 use Rattle.division.proofs.quotient.division.Statement.{statement}
 use Rattle.division.proofs.quotient.division.Tie as tie
 
-returns-2 : tie.Need-returns-2
-returns-2 c =
-    let a = exponent-is _ (c .before .before .unpack2 .ensures) in
-    let b = exponent-is _ (c .before .before .before .before .before .unpack .ensures) in
-    sym (quotient-of-zero _ _ (omega arith) (omega arith))
-
--- where neither counts as zero
-dividend : (c : tie.Else2) → Parts (c .before .before .before .before .before .before .args .x) (c .before .before .unpack2 .result)
-dividend c = parts-of _ (c .before .before .unpack2 .ensures) (omega arith) (omega arith)
-
-divisor : (c : tie.Else2) → Parts (c .before .before .before .before .before .before .args .y) (c .before .before .before .before .before .unpack .result)
-divisor c = parts-of _ (c .before .before .before .before .before .unpack .ensures) (omega arith) (omega arith)
-
-cast-close : tie.Need-cast-close
-cast-close c =
-    let d = c .before .before in
-    let n = d .before .before .before in
-    let below = rounds33-below (n .before .before .unpack2 .result .m) (n .before .before .before .before .before .unpack .result .m) (omega (arith, dividend n, divisor n)) in
-    omega (arith, quotient-fits (d .digits .result) (omega (arith, d .digits .ensures .0, below)))
-
 returns-3 : tie.Need-returns-3
 returns-3 c =
-    let d = c .before .before .before in
-    let n = d .before .before .before in
-    c .close .ensures ∙ sym (quotient-closed _ _ (dividend n) (divisor n) (d .digits .ensures .0) _ refl (d .digits .ensures .1))
+    let d = c .before in
+    let i = d .before .before .before .args in
+    let x = fullOf (i .s / 2 ^ 31) (i .e % 256) (i .m) in
+    let y = fullOf (i .t / 2 ^ 31) (i .f % 256) (i .n) in
+    let q = d .digits .result in
+    let w = q / 2 ^ 32 in
+    let sx : i .s / 2 ^ 31 ≡ sign x = omega arith in
+    let sy : i .t / 2 ^ 31 ≡ sign y = omega arith in
+    let mx : i .m % 2 ^ 31 + 2 ^ 31 ≡ mantissa x = omega arith in
+    let my : i .n % 2 ^ 31 + 2 ^ 31 ≡ mantissa y = omega arith in
+    let fx : IsFull x = record { bytes = record { b1< = omega arith; word< = omega arith }; first = omega arith } in
+    let fy : IsFull y = record { bytes = record { b1< = omega arith; word< = omega arith }; first = omega arith } in
+    c .close .ensures
+    ∙ ap (λ (k : ℕ). closed k (loose ((q + w) / 2 ^ w) (i .e % 256 + 128 + 256 - i .f % 256 + w) 0))
+    (signs-differ (i .s) (i .t) (omega arith) (omega arith) ∙ ap₂ (λ (a b : ℕ). (a + b) % 2) sx sy)
+    ∙ sym (quotient-closed x y fx fy (d .digits .ensures .0 ∙ ap₂ (λ (a b : ℕ). rounds33 a b .digits) mx my) w refl (omega arith))
 
 pub division-spec : {M : Type 1} → statement M
 division-spec =
     tie.close
     (tie.spec
+    (λ c. sym (quotient-by-zero _ _ (c .if1 .taken)))
+    (λ c. sym (quotient-of-zero _ _ (c .before .if1 .left) (c .if2 .taken)))
     (λ c κs. tt)
-    (λ c. sym (quotient-by-zero _ _ (omega (arith, exponent-is _ (c .before .before .unpack .ensures)))))
-    (λ c κs. tt)
-    returns-2
+    (λ c. let i = c .before .before .before .args in omega (arith, signs-differ (i .s) (i .t) (omega arith) (omega arith)))
+    (λ c. omega arith)
+    (λ c. omega arith)
+    (λ c. omega (arith, quotient-fits (c .digits .result) (omega arith)))
     (λ c. omega arith)
     (λ c. omega arith)
     (λ c. omega arith)
     (λ c. omega arith)
     (λ c. omega arith)
-    (λ c κs. let n = c .before .before in omega (arith, dividend n, divisor n))
-    (λ c. let n = c .before .before .before .before .before in omega (arith, dividend n, divisor n))
-    (λ c. omega arith)
-    (λ c. omega arith)
-    cast-close
     (λ c. omega arith)
     (λ c κs. tt)
     returns-3)

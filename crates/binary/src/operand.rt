@@ -1,0 +1,21 @@
+// An operand, read from its slot. The word is read behind the question whether the number is full: with it read before, the compiler keeps the words of both
+// operands while it looks at their forms.
+use number::Operand;
+ghost use Rattle.number.specs.Operand.{Unpacks};
+ghost use Rattle.slots.specs.Reach.{numberAt};
+
+pub(crate) fn operand(stack: &[u8], depth: usize, above: u8) -> Operand
+    ensures { λ r. ⌜ Unpacks (numberAt (now (stack .entry)) depth above) r ⌝ }
+{
+    let b1 = slots::b1_at(stack, depth, above);
+    if b1 != 0 {
+        let word = slots::word_at(stack, depth, above);
+        return Operand {
+            malformed: false,
+            sign: word,
+            m: word,
+            e: b1 as u32,
+        };
+    }
+    number::short_operand(slots::word_at(stack, depth, above))
+}
