@@ -1,6 +1,6 @@
 -- Document 01, "Addition and subtraction (003)".
 use Prim.Native.Nat.{ℕ, _+_, _-_, _^_, max}
-use mathlib.Core.Bool.{Bool, cond, _&&_}
+use mathlib.Core.Bool.{Bool, true, false, cond, _&&_}
 use lib.Dec.{ltb, leb, eqb}
 use lib.IntN.{ℤ, pos, negsuc, negℤ, natAbs, _+ℤ_}
 use lib.Signed.{leZ, shrZ}
@@ -56,6 +56,9 @@ unfoldable pub endedSum : ℤ → ℕ → Answer
 endedSum z e = cond (leb (2 ^ 32) (natAbs z)) (carried z e) (endedWhole z e)
 
 -- "Let e be the larger exponent byte and s the difference. ... Add." The number with the larger exponent byte has no difference.
+abbrev pub signedSum : ℤ → ℕ → ℤ → ℕ → Answer
+signedSum x e y f = endedSum (aligned (max e f - e) x +ℤ aligned (max e f - f) y) (max e f)
+
 abbrev pub larger : Number → Number → ℕ
 larger x y = max (x .b1) (y .b1)
 
@@ -79,3 +82,8 @@ sumOf x y = cond (eqb (x .b1) 0) (cond (eqb (y .b1) 0) (shortRoute x y) (fullRou
 -- "Subtraction negates the second, then adds."
 unfoldable pub differenceOf : Number → Number → Answer
 differenceOf x y = sumOf x (negated y)
+
+-- the second number as it is added, by whether it is subtracted
+abbrev pub secondOf : Bool → Number → Number
+secondOf true y = negated y
+secondOf false y = y

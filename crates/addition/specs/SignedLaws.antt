@@ -1,19 +1,29 @@
 -- Whole numbers as a sign and a magnitude: sums, and the floor of document 01's shifts, for any number of places.
-use Prim.Native.Nat.{ℕ, zero, suc, _+_, _-_, _^_, _/_, _%_, _≤_, _<_}
-use mathlib.Core.Path.{_≡_, refl, sym, _∙_, ap}
-use mathlib.Core.Bool.{Bool, true, false}
-use borrow.Author.Tests.{lt-ltb, le-ltb, leb-true, leb-false}
-use lib.Dec.{leb}
-use native.Mathlib.Nat.{div-eq-of-lt, add-div-right, two-pow-succ}
+use Prim.Native.Nat.{ℕ, zero, suc, _+_, _*_, _-_, _^_, _/_, _%_, _≤_, _<_}
+use mathlib.Core.Path.{_≡_, refl, sym, _∙_, ap, subst}
+use mathlib.Core.Bool.{Bool, true, false, cond, true≢false}
+use borrow.Author.Tests.{lt-ltb, le-ltb, ltb-true, leb-true, leb-false}
+use lib.Dec.{ltb, leb}
+use native.Mathlib.Nat.{mod-eq-of-lt, mod-lt, div-le-self, div-eq-of-lt, add-div-right, two-pow-succ}
 use native.Mathlib.Numerals.{add-one}
 use native.Mathlib.Omega.{arith}
-use lib.IntN.{ℤ, pos, negsuc, negℤ, natAbs, subℕ, _+ℤ_, +ℤ-comm, negℤ-negℤ, negℤ-+ℤ}
+use lib.IntN.{ℤ, pos, negsuc, negℤ, natAbs, subℕ, _+ℤ_, _-ℤ_, _*ℤ_, +ℤ-comm, negℤ-negℤ, negℤ-+ℤ}
 use lib.Pow.{pow-pos}
-use lib.Signed.{shrZ}
+use lib.Signed.{ltZ, quotZ, remZ, shrZ}
+use mir.Syntax.{w64}
+use mir.Val.{SFits, ofZ, toZ}
+use mir.Facts.{toZ-ofZ}
 use Rattle.number.specs.Value.{signed}
 use Rattle.addition.specs.Addition.{negative}
 
 -- ---- magnitude and sign
+
+natAbs-sub : (a b : ℕ) → natAbs (subℕ a b) ≤ a + b
+natAbs-sub a b = go (ltb a b) refl
+  where
+    go : (t : Bool) → ltb a b ≡ t → natAbs (cond t (negsuc (b - suc a)) (pos (a - b))) ≤ a + b
+    go true e = omega (arith, ltb-true a b e)
+    go false e = omega arith
 
 pub natAbs-signed : (s m : ℕ) → natAbs (signed s m) ≡ m
 natAbs-signed zero m = refl
@@ -26,7 +36,67 @@ negative-signed (suc s) zero h p = absurd (omega arith)
 negative-signed (suc zero) (suc m) h p = refl
 negative-signed (suc (suc s)) (suc m) h p = absurd (omega arith)
 
+pub signed-parts : (z : ℤ) → signed (negative z) (natAbs z) ≡ z
+signed-parts (pos n) = refl
+signed-parts (negsuc n) = refl
+
+pub negative-lt : (z : ℤ) → negative z < 2
+negative-lt (pos n) = omega arith
+negative-lt (negsuc n) = omega arith
+
 -- ---- sums
+
+-- a sum is no farther from zero than both together
+pub natAbs-sum : (y z : ℤ) → natAbs (y +ℤ z) ≤ natAbs y + natAbs z
+natAbs-sum (pos a) (pos b) = omega arith
+natAbs-sum (pos a) (negsuc b) = natAbs-sub a (suc b)
+natAbs-sum (negsuc a) (pos b) = omega (arith, natAbs-sub b (suc a))
+natAbs-sum (negsuc a) (negsuc b) = omega arith
+
+pub natAbs-twice : (x : ℤ) → natAbs (pos 2 *ℤ x) ≡ 2 * natAbs x
+natAbs-twice (pos n) = refl
+natAbs-twice (negsuc n) = natAbs-signed 1 (2 * suc n)
+
+pub natAbs-moved : (z : ℤ) (m : ℕ) → natAbs (shrZ z m) ≤ natAbs z
+natAbs-moved (pos a) m = div-le-self a m
+natAbs-moved (negsuc a) m = omega (arith, div-le-self a m)
+
+-- the test of a sign
+pub below-zero : (z : ℤ) → ltZ z (pos 0) ≡ true → (negative z ≡ 1) × (pos 0 -ℤ z ≡ pos (natAbs z))
+below-zero (pos n) h = absurd (omega (arith, ltb-true n 0 h))
+below-zero (negsuc n) h = (refl, ap pos {x = 0 + suc n} {y = suc n} (omega arith))
+
+pub from-zero : (z : ℤ) → ltZ z (pos 0) ≡ false → (negative z ≡ 0) × (z ≡ pos (natAbs z))
+from-zero (pos n) h = (refl, refl)
+from-zero (negsuc n) h = absurd (true≢false h)
+
+-- what a machine word of 64 bits holds, of an integer a that is b, and reads back
+fits : (z : ℤ) → natAbs z < 2 ^ 63 → SFits w64 z
+fits (pos n) h = record { sfits = h }
+fits (negsuc n) h = record { sfits = omega arith }
+
+pub holds : (a b : ℤ) → a ≡ b → natAbs b < 2 ^ 63 → SFits w64 a
+holds a b e h = subst (SFits w64) (sym e) (fits b h)
+
+pub held : (a b : ℤ) → a ≡ b → natAbs b < 2 ^ 63 → toZ w64 (ofZ w64 a) ≡ b
+held a b e h = toZ-ofZ (holds a b e h) ∙ e
+
+-- an integer's low bits are its own where it has no more
+pub low-bits : (z : ℤ) (n : ℕ) → natAbs z < n → remZ z (pos n) ≡ z
+low-bits (pos a) n h = ap pos (mod-eq-of-lt h)
+low-bits (negsuc a) n h = ap (λ (i : ℕ). negℤ (pos i)) (mod-eq-of-lt h)
+
+opposite-fits : (i : ℕ) → i ≤ 2 ^ 63 → SFits w64 (negℤ (pos i))
+opposite-fits zero l = record { sfits = omega arith }
+opposite-fits (suc i) l = record { sfits = l }
+
+pub quotient-fits : (z : ℤ) (n : ℕ) → SFits w64 z → SFits w64 (quotZ z (pos n))
+quotient-fits (pos a) n h = record { sfits = omega (arith, h .sfits, div-le-self a n) }
+quotient-fits (negsuc a) n h = opposite-fits (suc a / n) (omega (arith, h .sfits, div-le-self (suc a) n))
+
+pub low-bits-lt : (z : ℤ) (n : ℕ) → 0 < n → natAbs (remZ z (pos n)) < n
+low-bits-lt (pos a) n h = mod-lt a h
+low-bits-lt (negsuc a) n h = rw (natAbs-signed 1 (suc a % n)) (mod-lt (suc a) h)
 
 minus : (n k : ℕ) → n ≡ suc k → negℤ (pos n) ≡ negsuc k
 minus n k h = ap (λ (i : ℕ). negℤ (pos i)) h
@@ -50,51 +120,6 @@ below a b h =
     ∙ ap (λ (z : ℤ). negℤ (pos b) +ℤ z) (sym (negℤ-negℤ (pos a)))
     ∙ sym (negℤ-+ℤ (pos b) (negℤ (pos a)))
     ∙ ap negℤ (above b a h)
-
--- ---- sums in two's complement on 64 bits
-
-abbrev pub twos : ℕ → ℕ → ℕ
-twos zero m = m
-twos (suc s) m = (2 ^ 64 - m) % 2 ^ 64
-
-abbrev Sums : ℕ → ℕ → ℕ → ℕ → ℕ → ℕ → Type 0
-Sums s m o n r t = (signed s m +ℤ signed o n ≡ signed r t) × (t + 1 < 2 ^ 33)
-
--- pos m less n, as it comes out with its top bit clear and set
-less-clear : (m n w : ℕ) → m < 2 ^ 32 → n < 2 ^ 32 → w ≡ (m + twos 1 n) % 2 ^ 64 → w < 2 ^ 63 → Sums 0 m 1 n 0 w
-less-clear m n w h g e l =
-    let le : n ≤ m = omega arith in let is : m - n ≡ w = omega arith in
-    (above m n le ∙ ap pos is, omega arith)
-
-less-set : (m n w t : ℕ) → m < 2 ^ 32 → n < 2 ^ 32 → w ≡ (m + twos 1 n) % 2 ^ 64 → 2 ^ 63 ≤ w → t < 2 ^ 64 → (t + w) % 2 ^ 64 ≡ 0 → Sums 0 m 1 n 1 t
-less-set m n w t h g e l b f =
-    let le : m ≤ n = omega arith in let is : n - m ≡ t = omega arith in
-    (below m n le ∙ ap (λ (i : ℕ). negℤ (pos i)) is, omega arith)
-
-swap : (s m o n r t : ℕ) → Sums s m o n r t → Sums o n s m r t
-swap s m o n r t p = (+ℤ-comm (signed o n) (signed s m) ∙ p .0, p .1)
-
-pub sum-clear : (s m o n w : ℕ) → s < 2 → o < 2 → m < 2 ^ 32 → n < 2 ^ 32 → w ≡ (twos s m + twos o n) % 2 ^ 64 → w < 2 ^ 63 → Sums s m o n 0 w
-sum-clear zero m zero n w a b h g e l = let is : m + n ≡ w = omega arith in (ap pos is, omega arith)
-sum-clear zero m (suc zero) n w a b h g e l = less-clear m n w h g e l
-sum-clear (suc zero) m zero n w a b h g e l = swap 0 n 1 m 0 w (less-clear n m w g h (omega arith) l)
-sum-clear (suc zero) m (suc zero) n w a b h g e l =
-    let none : m + n ≡ 0 = omega arith in let is : 0 ≡ w = omega arith in
-    (same-sign 1 m n ∙ ap (λ (i : ℕ). negℤ (pos i)) none ∙ ap pos is, omega arith)
-sum-clear (suc (suc s)) m o n w a b h g e l = absurd (omega arith)
-sum-clear zero m (suc (suc o)) n w a b h g e l = absurd (omega arith)
-sum-clear (suc zero) m (suc (suc o)) n w a b h g e l = absurd (omega arith)
-
-pub sum-set : (s m o n w t : ℕ) → s < 2 → o < 2 → m < 2 ^ 32 → n < 2 ^ 32 → w ≡ (twos s m + twos o n) % 2 ^ 64 → 2 ^ 63 ≤ w
-    → t < 2 ^ 64 → (t + w) % 2 ^ 64 ≡ 0 → Sums s m o n 1 t
-sum-set zero m zero n w t a b h g e l c f = absurd (omega arith)
-sum-set zero m (suc zero) n w t a b h g e l c f = less-set m n w t h g e l c f
-sum-set (suc zero) m zero n w t a b h g e l c f = swap 0 n 1 m 1 t (less-set n m w t g h (omega arith) l c f)
-sum-set (suc zero) m (suc zero) n w t a b h g e l c f =
-    let is : m + n ≡ t = omega arith in (same-sign 1 m n ∙ ap (λ (i : ℕ). negℤ (pos i)) is, omega arith)
-sum-set (suc (suc s)) m o n w t a b h g e l c f = absurd (omega arith)
-sum-set zero m (suc (suc o)) n w t a b h g e l c f = absurd (omega arith)
-sum-set (suc zero) m (suc (suc o)) n w t a b h g e l c f = absurd (omega arith)
 
 -- ---- the shift
 

@@ -1,61 +1,46 @@
-// `addition` of the listing. (Its `subtract` negates the second number and goes on into `addition`.) A whole number with a sign is kept as its
-// sign, 0 or 1, and its magnitude.
+// The full route of `addition`, on mantissas that have their signs.
 use ending::Answer;
 use number::Number;
 ghost use mathlib.Core.Path.{_≡_};
-ghost use Prim.Native.Nat.{_+_, _^_, _≤_, _<_};
-ghost use Rattle.number.specs.Number.{number};
+ghost use Prim.Native.Nat.{_+_, _^_, _%_, _≤_, _<_};
+ghost use lib.IntN.{pos, natAbs, _+ℤ_};
+ghost use lib.Signed.{remZ};
 ghost use Rattle.number.specs.Value.{signed};
-ghost use Rattle.addition.specs.Addition.{endedSum, fullRoute, sumOf};
-ghost use Rattle.addition.specs.SignedLaws.{twos};
-ghost use Rattle.addition.specs.AdditionLaws.{shiftedBy, Ordered, Adds};
-ghost use Rattle.addition.specs.ShortRouteLaws.{carryOf};
+ghost use Rattle.addition.specs.Addition.{negative, aligned, endedSum, signedSum};
 
-// A mantissa moved down by some places. Halves go towards plus infinity, so the sign counts.
-fn shifted(sign: u8, m: u64, places: u8) -> u64
-    requires { ⌜ (sign < 2) × (m < 2 ^ 32) ⌝ }
-    ensures { λ r. ⌜ (r ≡ shiftedBy sign m places) × (r < 2 ^ 32) ⌝ }
+// A mantissa moved down by some places, halves towards plus infinity: what stands above a half is rounded by it, and no place is a case of its own.
+fn shifted(x: i64, places: u32) -> i64
+    requires { ⌜ natAbs x < 2 ^ 32 ⌝ }
+    ensures { λ r. ⌜ r ≡ aligned places x ⌝ }
 {
     if 32 < places {
         return 0;
     }
-    (2 * m + (1u64 << places) - sign as u64) >> (places + 1)
+    ((2 * x >> places) + 1) >> 1
 }
 
-struct Whole {
-    sign: u8,
-    t: u64,
-}
-
-// A whole number in two's complement on 64 bits.
-fn twos_complement(sign: u8, m: u64) -> u64
-    requires { ⌜ sign < 2 ⌝ }
-    ensures { λ r. ⌜ r ≡ twos sign m ⌝ }
+fn sign_of(z: i64) -> u8
+    ensures { λ r. ⌜ r ≡ negative z ⌝ }
 {
-    if sign == 0 {
-        return m;
+    if z < 0 {
+        return 1;
     }
-    std::num::wrapping_sub_u64(0, m)
+    0
 }
 
-// Signs are as good as random: the sum in two's complement has no branch that goes by them.
-fn added(sign: u8, m: u64, other: u8, n: u64) -> Whole
-    requires { ⌜ (sign < 2) × (m < 2 ^ 32) × (other < 2) × (n < 2 ^ 32) ⌝ }
-    ensures { λ r. ⌜ Adds sign m other n r ⌝ }
+fn magnitude(z: i64) -> u64
+    requires { ⌜ natAbs z < 2 ^ 33 ⌝ }
+    ensures { λ r. ⌜ r ≡ natAbs z ⌝ }
 {
-    let sum = std::num::wrapping_add_u64(twos_complement(sign, m), twos_complement(other, n));
-    if sum < 9223372036854775808 {
-        return Whole { sign: 0, t: sum };
+    if z < 0 {
+        return (0 - z) as u64;
     }
-    Whole {
-        sign: 1,
-        t: std::num::wrapping_sub_u64(0, sum),
-    }
+    z as u64
 }
 
 // The ending of a sum, which may have carried into a 33rd bit: then half of it has its top bit set.
-fn carry_and_end(sign: u8, t: u64, e: u8) -> Answer
-    requires { ⌜ (sign < 2) × (t + 1 < 2 ^ 33) ⌝ }
+fn carry_and_end(sign: u8, t: u64, e: u32) -> Answer
+    requires { ⌜ (sign < 2) × (t + 1 < 2 ^ 33) × (e < 256) ⌝ }
     ensures { λ r. ⌜ r ≡ endedSum (signed sign t) e ⌝ }
 {
     if t < 4294967296 {
@@ -65,92 +50,42 @@ fn carry_and_end(sign: u8, t: u64, e: u8) -> Answer
         return Answer::TooBig;
     }
     Answer::Done(Number {
-        b1: e + 1,
+        b1: (e + 1) as u8,
         word: number::full_word(sign, (t + 1 - sign as u64) / 2),
     })
 }
 
-// Two signed mantissas, the one with the larger exponent byte first.
-struct Pair {
-    sign: u8,
-    m: u64,
-    e: u8,
-    other: u8,
-    n: u64,
-    f: u8,
+fn ended(z: i64, e: u32) -> Answer
+    requires { ⌜ (natAbs z + 1 < 2 ^ 33) × (e < 256) ⌝ }
+    ensures { λ r. ⌜ r ≡ endedSum z e ⌝ }
+{
+    carry_and_end(sign_of(z), magnitude(z), e)
 }
 
-fn in_order(x1: u8, xw: u32, y1: u8, yw: u32) -> Pair
-    ensures { λ r. ⌜ Ordered (number x1 xw) (number y1 yw) r ⌝ }
+// Two mantissas whose exponent bytes are so many places apart, the larger first.
+fn summed(x: i64, y: i64, places: u32, e: u32) -> Answer
+    requires { ⌜ (natAbs x < 2 ^ 32) × (natAbs y < 2 ^ 32) × (e < 256) ⌝ }
+    ensures { λ r. ⌜ r ≡ endedSum (x +ℤ aligned places y) e ⌝ }
 {
-    let a = number::unpack(Number { b1: x1, word: xw });
-    let b = number::unpack(Number { b1: y1, word: yw });
-    if a.e < b.e {
-        return Pair {
-            sign: b.sign,
-            m: b.m,
-            e: b.e,
-            other: a.sign,
-            n: a.m,
-            f: a.e,
-        };
-    }
-    Pair {
-        sign: a.sign,
-        m: a.m,
-        e: a.e,
-        other: b.sign,
-        n: b.m,
-        f: b.e,
-    }
+    ended(x + shifted(y, places), e)
 }
 
-fn add_full(x1: u8, xw: u32, y1: u8, yw: u32) -> Answer
-    ensures { λ r. ⌜ r ≡ fullRoute (number x1 xw) (number y1 yw) ⌝ }
+fn low_bits(x: i64) -> i64
+    ensures { λ r. ⌜ r ≡ remZ x (pos 4294967296) ⌝ }
 {
-    let p = in_order(x1, xw, y1, yw);
-    let moved = shifted(p.other, p.n, p.e - p.f);
-    let sum = added(p.sign, p.m, p.other, moved);
-    carry_and_end(sum.sign, sum.t, p.e)
+    x % 4294967296
 }
 
-// The carry of a sum of sixteen-bit numbers, found from the wrapped sum.
-fn carry_of(sum: u16, first: u16) -> u32
-    ensures { λ r. ⌜ (r ≡ carryOf sum first) × (r ≤ 1) ⌝ }
+// Of two mantissas with their signs and their exponent bytes, each the low bits of what is handed over: the compiler knows that there is nothing above.
+pub fn aligned_sum(x: i64, e: u32, y: i64, f: u32) -> Answer
+    ensures { λ r. ⌜ r ≡ signedSum (remZ x (pos 4294967296)) (e % 256) (remZ y (pos 4294967296)) (f % 256) ⌝ }
 {
-    if sum < first {
-        return 1;
+    let m = low_bits(x);
+    let n = low_bits(y);
+    let first = e % 256;
+    let second = f % 256;
+    if first < second {
+        return summed(n, m, second - first, second);
     }
-    0
-}
-
-// The sign bytes settle the seventeenth bit: a sum of two short numbers is stored short where they and the carry make it 0 or -1.
-pub fn addition(x: Number, y: Number) -> Answer
-    ensures { λ r. ⌜ r ≡ sumOf x y ⌝ }
-{
-    let x1 = x.b1;
-    let xw = x.word;
-    let y1 = y.b1;
-    let yw = y.word;
-    if x1 == 0 {
-        if y1 == 0 {
-            let first = number::low_half(xw);
-            let sum = std::num::wrapping_add_u16(first, number::low_half(yw));
-            let carry = carry_of(sum, first);
-            let negatives = xw / 2147483648 + yw / 2147483648;
-            if carry == negatives {
-                return Answer::Done(Number {
-                    b1: 0,
-                    word: number::halves_word(0, sum),
-                });
-            }
-            if carry + 1 == negatives {
-                return Answer::Done(Number {
-                    b1: 0,
-                    word: number::halves_word(255, sum),
-                });
-            }
-        }
-    }
-    add_full(x1, xw, y1, yw)
+    summed(m, n, first - second, first)
 }

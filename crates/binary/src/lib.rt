@@ -4,6 +4,7 @@ mod operand;
 mod quotient;
 mod storing;
 mod sum;
+mod term;
 
 pub use quotient::divide;
 pub use sum::add;

@@ -1,16 +1,20 @@
 // Literals 15 and 3. "Subtraction negates the second, then adds."
 use crate::storing::store;
+use crate::term::term;
+use addition::Short;
 use literals::table;
-use number::Number;
 ghost use mathlib.Core.Path.{_≡_};
-ghost use Rattle.number.specs.Number.{number as numberOf};
+ghost use mathlib.Core.Logic.{_⊎_};
+ghost use mathlib.Core.Bool.{false};
+ghost use Prim.Native.Nat.{_^_};
+ghost use Rattle.slots.specs.Reach.{lacking, numberAt};
 ghost use Rattle.literals.specs.Operate.{outcome, operateOf};
-ghost use Rattle.binary.specs.Sum.{literalOf, secondOf};
+ghost use Rattle.binary.specs.Sum.{flips, literalOf, routeOf, GoesFull};
 
 pub fn add(stack: &mut [u8], depth: &mut usize) -> u8
     ensures { λ r. ⌜ operateOf (now (stack .entry)) (now (depth .entry)) 15 ≡ (outcome r (now (depth .exit)), now (stack .exit)) ⌝ }
 {
-    sum(stack, depth, false, table::ADD_TAKES, table::ADD_LEAVES)
+    sum(stack, depth, 0, table::ADD_TAKES, table::ADD_LEAVES)
 }
 
 pub fn subtract(stack: &mut [u8], depth: &mut usize) -> u8
@@ -19,46 +23,70 @@ pub fn subtract(stack: &mut [u8], depth: &mut usize) -> u8
     sum(
         stack,
         depth,
-        true,
+        2147483648,
         table::SUBTRACT_TAKES,
         table::SUBTRACT_LEAVES,
     )
 }
 
-// The second number as it is added.
-fn second(less: bool, b1: u8, word: u32) -> Number
-    ensures { λ r. ⌜ r ≡ secondOf less (numberOf b1 word) ⌝ }
+// What the short route answers. A number that is full leaves it to the full route.
+fn short_route(stack: &[u8], depth: usize, flip: u32) -> Short
+    ensures { λ r. ⌜ r ≡ routeOf (flips flip) (numberAt (now (stack .entry)) depth 1) (numberAt (now (stack .entry)) depth 0) ⌝ }
 {
-    if less {
-        return number::negate(Number { b1, word });
+    if slots::b1_at(stack, depth, 1) != 0 {
+        return Short::Beyond;
     }
-    Number { b1, word }
+    if slots::b1_at(stack, depth, 0) != 0 {
+        return Short::Beyond;
+    }
+    addition::short_sum(
+        slots::word_at(stack, depth, 1),
+        slots::word_at(stack, depth, 0),
+        flip != 0,
+    )
 }
 
-fn sum(stack: &mut [u8], depth: &mut usize, less: bool, taken: usize, left: usize) -> u8
-    requires { ⌜ (taken ≡ 2) × (left ≡ 1) ⌝ }
-    ensures { λ r. ⌜ operateOf (now (stack .entry)) (now (depth .entry)) (literalOf less) ≡ (outcome r (now (depth .exit)), now (stack .exit)) ⌝ }
+// What is added to the second number's word flips its sign, for a difference, or is 0.
+fn sum(stack: &mut [u8], depth: &mut usize, flip: u32, taken: usize, left: usize) -> u8
+    requires { ⌜ ((flip ≡ 0) ⊎ (flip ≡ 2 ^ 31)) × (taken ≡ 2) × (left ≡ 1) ⌝ }
+    ensures { λ r. ⌜ operateOf (now (stack .entry)) (now (depth .entry)) (literalOf (flips flip)) ≡ (outcome r (now (depth .exit)), now (stack .exit)) ⌝ }
 {
     let old = *depth;
     if slots::lacks(stack, old, taken) {
         return slots::refusal(stack, old, taken);
     }
-    if slots::malformed_at(stack, old, 1) {
+    let short = short_route(stack, old, flip);
+    match short {
+        Short::Malformed => 3,
+        Short::Stored(word) => {
+            slots::put_at(stack, old, 1, 0, word);
+            *depth = *depth - taken + left;
+            0
+        }
+        Short::Beyond => full_route(stack, depth, old, flip, taken, left),
+    }
+}
+
+fn full_route(
+    stack: &mut [u8],
+    depth: &mut usize,
+    old: usize,
+    flip: u32,
+    taken: usize,
+    left: usize,
+) -> u8
+    requires { ⌜ ((flip ≡ 0) ⊎ (flip ≡ 2 ^ 31)) × (taken ≡ 2) × (left ≡ 1) × (now depth ≡ old) × (lacking (now stack) old 2 ≡ false)
+        × GoesFull (flips flip) (numberAt (now stack) old 1) (numberAt (now stack) old 0) ⌝ }
+    ensures { λ r. ⌜ operateOf (now (stack .entry)) (now (depth .entry)) (literalOf (flips flip)) ≡ (outcome r (now (depth .exit)), now (stack .exit)) ⌝ }
+{
+    let a = term(stack, old, 1, 0);
+    if a.malformed {
         return 3;
     }
-    if slots::malformed_at(stack, old, 0) {
+    let b = term(stack, old, 0, flip);
+    if b.malformed {
         return 3;
     }
-    let answer = addition::addition(
-        Number {
-            b1: slots::b1_at(stack, old, 1),
-            word: slots::word_at(stack, old, 1),
-        },
-        second(
-            less,
-            slots::b1_at(stack, old, 0),
-            slots::word_at(stack, old, 0),
-        ),
-    );
+    let answer = addition::aligned_sum(a.x, a.e, b.x, b.e);
     store(stack, depth, old, answer, taken, left)
 }

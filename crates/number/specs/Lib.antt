@@ -6,7 +6,7 @@ pub mod ValueLaws
 pub mod Restack
 pub mod RestackLaws
 pub mod RestackValue
-pub mod Unpack
 pub mod Negate
 pub mod NegateLaws
 pub mod Operand
+pub mod RestackNegated

@@ -5,7 +5,6 @@ mod negation;
 mod operand;
 mod parts;
 mod restacking;
-mod unpacking;
 
 pub use form::Form;
 pub use form::form_of;
@@ -21,8 +20,6 @@ pub use parts::short_magnitude;
 pub use parts::short_word;
 pub use parts::swapped;
 pub use restacking::re_stack;
-pub use unpacking::Unpacked;
-pub use unpacking::unpack;
 
 // A number is five bytes b1 to b5. The word is b2 to b5, high byte first. It stands before b1 so that the compiler, which moves the struct as one
 // machine word, has it in the low half and stores its bytes at once.

@@ -17,13 +17,12 @@ use Rattle.number.specs.Restack.{fullOfShort, restacked}
 use Rattle.number.specs.RestackLaws.{restack-full, restack-some}
 use Rattle.number.specs.Negate.{negated}
 use Rattle.number.specs.NegateLaws.{negate-full}
-use Rattle.number.specs.Unpack.{magnitudeOf}
 use Rattle.ending.specs.declared.answer.Answer.the-variants.{Done}
 use Rattle.ending.specs.Ending.{loose, normal, rounded, ended}
 use Rattle.ending.specs.EndingLaws.{normal-exponent, closed-stored, ended-zero, ended-other, ended-set}
 use Rattle.addition.specs.Addition.{endedSum, alignedSum, fullRoute, shortRoute, sumOf, differenceOf}
 use Rattle.addition.specs.SignedLaws.{below}
-use Rattle.addition.specs.AdditionLaws.{shiftedBy, unshifted, aligned-first, sum-ended}
+use Rattle.addition.specs.AdditionLaws.{magnitudeOf, shiftedBy, unshifted, aligned-first, sum-ended}
 use Rattle.addition.specs.ShortRouteLaws.{first-full}
 use Rattle.truncation.specs.Truncate.{taken65536, cleared, truncated}
 use Rattle.truncation.specs.TruncateLaws.{truncate-full, truncate-below-one, truncate-to-short, truncate-taken, truncate-cleared, truncate-whole, taken-145, taken-not-145}

@@ -25,5 +25,6 @@ carry-and-end-spec =
     (λ c. omega arith)
     (λ c. omega arith)
     (λ c. omega arith)
+    (λ c. omega arith)
     (λ c κs. tt)
     returns-3)

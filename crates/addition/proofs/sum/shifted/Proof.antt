@@ -1,34 +1,44 @@
--- `shifted` meets its contract: at most 2^32 is made of the places, so that the sum fits and the shift of 1 loses nothing.
-use Prim.Native.Nat.{ℕ, _*_, _^_, _%_, _≤_}
-use mathlib.Core.Path.{_≡_, _∙_, ap}
-use borrow.Author.Tests.{le-ltb, lt-ltb}
-use native.Mathlib.Nat.{one-mul, mod-eq-of-lt}
+-- `shifted` meets its contract: no step leaves a machine word, and together they are the definition's floor.
+use borrow.Author.Needs.{needs}
+use Prim.Native.Nat.{ℕ, _+_, _*_, _^_, _≤_, _<_}
+use mathlib.Core.Path.{_≡_, sym, _∙_, ap}
 use native.Mathlib.Omega.{arith}
-use lib.Pow.{pow-pos, pow-mono}
-use Rattle.addition.specs.AdditionLaws.{shifted-lt}
+use lib.IntN.{ℤ, pos, natAbs, _+ℤ_, _*ℤ_}
+use lib.Signed.{shrZ}
+use mir.Syntax.{w64}
+use mir.Val.{SFits, ofZ, toZ}
+use mir.Facts.{toZ-ofZ}
+use Rattle.addition.specs.Addition.{aligned}
+use Rattle.addition.specs.SignedLaws.{natAbs-twice, natAbs-moved, natAbs-sum, holds, held}
+use Rattle.addition.specs.AdditionLaws.{moved-away, twice-moved, aligned-lt}
 use Rattle.addition.proofs.sum.shifted.Statement.{statement}
 use Rattle.addition.proofs.sum.shifted.Tie as tie
 
--- the power as the code makes it
-made : (k : ℕ) → k ≤ 32 → (1 * 2 ^ k) % 2 ^ 64 ≡ 2 ^ k
-made k g = ap (λ (n : ℕ). n % 2 ^ 64) (one-mul (2 ^ k)) ∙ mod-eq-of-lt (omega (arith, pow-mono {i = k} {j = 32} g))
+module _ (x : ℤ) (k : ℕ) (f : SFits w64 x) (h : natAbs x < 2 ^ 32) where
+  abbrev doubled : pos 2 *ℤ toZ w64 (ofZ w64 x) ≡ pos 2 *ℤ x
+  doubled = ap (λ (y : ℤ). pos 2 *ℤ y) (toZ-ofZ f)
 
-returns-2 : tie.Need-returns-2
-returns-2 c =
-    let a = c .before .args in
-    let k = a .places in
-    rw (made k (omega arith)) (simp (le-ltb 32 k (omega arith)), shifted-lt (a .sign) (a .m) k (omega arith))
+  two : natAbs (pos 2 *ℤ x) < 2 ^ 33
+  two = omega (arith, natAbs-twice x)
+
+  one : natAbs (shrZ (pos 2 *ℤ x) (2 ^ k) +ℤ pos 1) ≤ 2 ^ 33
+  one = omega (arith, two, natAbs-moved (pos 2 *ℤ x) (2 ^ k), natAbs-sum (shrZ (pos 2 *ℤ x) (2 ^ k)) (pos 1))
+
+  moved : shrZ (toZ w64 (ofZ w64 (pos 2 *ℤ toZ w64 (ofZ w64 x)))) (2 ^ k) ≡ shrZ (pos 2 *ℤ x) (2 ^ k)
+  moved = ap (λ (y : ℤ). shrZ y (2 ^ k)) (held _ _ doubled (omega (arith, two)))
+
+  more : toZ w64 (ofZ w64 (shrZ (toZ w64 (ofZ w64 (pos 2 *ℤ toZ w64 (ofZ w64 x)))) (2 ^ k))) +ℤ pos 1 ≡ shrZ (pos 2 *ℤ x) (2 ^ k) +ℤ pos 1
+  more = ap (λ (y : ℤ). y +ℤ pos 1) (held _ _ moved (omega (arith, two, natAbs-moved (pos 2 *ℤ x) (2 ^ k))))
 
 pub shifted-spec : {M : Type 1} → statement M
 shifted-spec =
     tie.close
     (tie.spec
-    (λ c. (simp (lt-ltb _ _ (c .if1 .taken)), omega arith))
+    (λ c. sym (moved-away _ _ (c .if1 .taken)))
+    (λ c. let s = c .before in let x = s .args .x in holds _ _ (doubled x 0 (s .fits .x) (s .pre)) (omega (arith, two x 0 (s .fits .x) (s .pre))))
+    (λ c. search needs)
     (λ c. omega arith)
-    (λ c. omega arith)
-    (λ c. let k = c .before .args .places in omega (arith, made k (omega arith), pow-mono {i = k} {j = 32} (omega arith)))
-    (λ c. let k = c .before .args .places in omega (arith, made k (omega arith), pow-pos k))
-    (λ c. omega arith)
-    (λ c. omega arith)
-    (λ c. omega arith)
-    returns-2)
+    (λ c. let s = c .before in let x = s .args .x in let k = s .args .places in holds _ _ (more x k (s .fits .x) (s .pre)) (omega (arith, one x k (s .fits .x) (s .pre))))
+    (λ c.
+    let s = c .before in let x = s .args .x in let k = s .args .places in
+    held _ _ (ap (λ (y : ℤ). shrZ y 2) (held _ _ (more x k (s .fits .x) (s .pre)) (omega (arith, one x k (s .fits .x) (s .pre)))) ∙ twice-moved x k (omega arith)) (omega (arith, aligned-lt k x (s .pre)))))

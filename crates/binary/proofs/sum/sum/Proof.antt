@@ -1,38 +1,56 @@
--- `sum` meets its contract: each way out is a case of the operation.
+-- `sum` meets its contract: each way out is a case of the operation, and the short route says which.
 use borrow.Author.Needs.{needs}
-use mathlib.Core.Path.{_≡_, refl, sym, _∙_, ap, ap₂}
+use Prim.Native.Nat.{ℕ, _+_, _-_}
+use mathlib.Core.Path.{_≡_, refl, sym, _∙_, ap, ap₂, subst}
 use mathlib.Core.Bool.{false}
+use mathlib.Core.List.{List}
+use native.Mathlib.Omega.{arith}
+use denote.Ref.{now}
 use Rattle.number.specs.Number.{number}
-use Rattle.addition.specs.Addition.{sumOf}
-use Rattle.slots.specs.Reach.{lacking, refusalOf}
-use Rattle.literals.specs.WayLaws.{two-lacking, two-malformed}
-use Rattle.binary.specs.Stored.{storedOf, two-stored}
-use Rattle.binary.specs.Sum.{secondOf, totalOf, sum-line}
+use Rattle.addition.specs.declared.short.Short.{Short}
+use Rattle.slots.specs.Reach.{lacking, refusalOf, numberAt, putAt}
+use Rattle.slots.specs.ReachLaws.{has}
+use Rattle.literals.specs.Operate.{outcome, operateOf}
+use Rattle.literals.specs.WayLaws.{two-lacking, two-malformed, two-done}
+use Rattle.binary.specs.Sum.{flips, literalOf, totalOf, sum-line, Says, route-says}
 use Rattle.binary.proofs.sum.sum.Statement.{statement}
 use Rattle.binary.proofs.sum.sum.Tie as tie
 
 -- both numbers are there
-there : (c : tie.Else1) → lacking (c .before .before .before .before .before .args .stack .now) (c .before .before .before .before .before .args .depth .now) 2 ≡ false
-there c = ap (lacking _ _) (sym (c .before .before .before .before .before .pre .0)) ∙ sym (c .before .lacks .ensures) ∙ c .if1 .left
+there : (c : tie.Else1) → (let a = c .before .before .before .before .before .args in lacking (a .stack .now) (a .depth .now) 2 ≡ false)
+there c = ap (lacking _ _) (sym (c .before .before .before .before .before .pre .1)) ∙ sym (c .before .lacks .ensures) ∙ c .if1 .left
+
+-- what the short route's answer says
+said : (c : tie.After-short-route) (r : Short) → c .short-route .result ≡ r → (let a = c .before .before .before .before .before .before .before .args in
+    Says (flips (a .flip)) (numberAt (a .stack .now) (a .depth .now) 1) (numberAt (a .stack .now) (a .depth .now) 0) r)
+said c r e = subst (Says _ _ _) (sym (c .short-route .ensures) ∙ e) (route-says _ _ _)
+
+returns : tie.Need-returns
+returns c =
+    let t = c .before .before in
+    let i = t .before .before .before .before .before in
+    let l = flips (i .args .flip) in
+    two-lacking _ _ _ (totalOf l) (sum-line l) (ap (lacking _ _) (sym (i .pre .1)) ∙ sym (t .before .lacks .ensures) ∙ t .if1 .taken) _
+    (c .refusal .ensures ∙ ap (refusalOf _ _) (i .pre .1))
 
 returns-2 : tie.Need-returns-2
-returns-2 c = two-malformed _ _ _ (totalOf (c .before .before .before .before .before .before .before .before .args .less)) (sum-line (c .before .before .before .before .before .before .before .before .args .less)) (there (c .before .before .before)) (simp (sym (c .before .malformed-at .ensures) ∙ c .if2 .taken))
+returns-2 c =
+    let r = c .before .before in
+    let l = flips (r .before .before .before .before .before .before .before .args .flip) in
+    two-malformed _ _ _ (totalOf l) (sum-line l) (there (r .before .before)) (said r _ (c .enum-told .given .1))
 
 returns-3 : tie.Need-returns-3
 returns-3 c =
-    let m = c .before .before .before in
-    two-malformed _ _ _ (totalOf (c .before .before .before .before .before .before .before .before .before .before .before .args .less)) (sum-line (c .before .before .before .before .before .before .before .before .before .before .before .args .less)) (there (c .before .before .before .before .before .before))
-    (simp (sym (m .before .malformed-at .ensures) ∙ m .if2 .left, sym (c .before .malformed-at2 .ensures) ∙ c .if3 .taken))
-
-returns-4 : tie.Need-returns-4
-returns-4 c =
     let p = c .before .before in
-    let a = p .before .before .before in
-    let n = c .before .before .before .before .before .before .before .before .before .before .before .before .before .before .before in
-    let m = n .before .before .before in
-    two-stored _ _ _ (totalOf (c .before .before .before .before .before .before .before .before .before .before .before .before .before .before .before .before .before .before .before .before .before .before .before .before .before .before .args .less)) (sum-line (c .before .before .before .before .before .before .before .before .before .before .before .before .before .before .before .before .before .before .before .before .before .before .before .before .before .before .args .less)) (there (c .before .before .before .before .before .before .before .before .before .before .before .before .before .before .before .before .before .before .before .before .before))
-    (simp (sym (m .before .malformed-at .ensures) ∙ m .if2 .left, sym (n .before .malformed-at2 .ensures) ∙ n .if3 .left)) _ _ _
-    (ap (storedOf _ _) (sym (a .addition .ensures ∙ ap₂ sumOf (ap₂ number (a .before .before .before .before .before .before .before .before .b1-at .ensures) (a .before .before .before .before .before .before .word-at .ensures)) (a .before .second .ensures ∙ ap (secondOf (c .before .before .before .before .before .before .before .before .before .before .before .before .before .before .before .before .before .before .before .before .before .before .before .before .before .before .args .less)) (ap₂ number (a .before .before .before .before .b1-at2 .ensures) (a .before .before .word-at2 .ensures))))) ∙ p .store .ensures)
+    let k = p .before .before .before in
+    let r = k .before .before in
+    let i = r .before .before .before .before .before .before .before in
+    let s = i .args .stack .now in
+    let d = i .args .depth .now in
+    let l = flips (i .args .flip) in
+    let t = said r _ (k .short .given .1) in
+    let after : d - 1 ≡ d - i .args .taken + i .args .left = omega (arith, i .pre, has _ _ _ (there (r .before .before))) in
+    two-done _ _ _ (totalOf l) (sum-line l) (there (r .before .before)) (t .0) _ (t .1) ∙ ap₂ (λ (e : ℕ) (u : List ℕ). (outcome 0 e, u)) after (sym (p .put-at .ensures))
 
 pub sum-spec : {M : Type 1} → statement M
 sum-spec =
@@ -41,19 +59,18 @@ sum-spec =
     (λ c κs. tt)
     (λ c κs. tt)
     (λ c. search needs)
-    (λ c. let t = c .before .before in two-lacking _ _ _ (totalOf (c .before .before .before .before .before .before .before .args .less)) (sum-line (c .before .before .before .before .before .before .before .args .less)) (ap (lacking _ _) (sym (c .before .before .before .before .before .before .before .pre .0)) ∙ sym (t .before .lacks .ensures) ∙ t .if1 .taken) _ (c .refusal .ensures ∙ ap (refusalOf _ _) (c .before .before .before .before .before .before .before .pre .0)))
+    returns
     (λ c κs. tt)
+    (λ c. search needs)
+    (λ c. search needs)
+    (λ c κs. tt)
+    (λ c. let e = c .before .before .before .before .before .before .before .before .before in omega (arith, e .before .before .before .before .before .pre, has _ _ _ (there e)))
+    (λ c. search needs)
+    (λ c. search needs)
+    (λ c κs. let r = c .before .before .before .before in let i = r .before .before .before .before .before .before .before in (i .pre .0, i .pre .1, i .pre .2, refl, there (r .before .before), said r _ (c .before .before .enum-told2 .given .1)))
     (λ c. search needs)
     returns-2
-    (λ c κs. tt)
     (λ c. search needs)
     returns-3
-    (λ c κs. tt)
-    (λ c κs. tt)
-    (λ c κs. tt)
-    (λ c κs. tt)
-    (λ c κs. tt)
-    (λ c κs. tt)
-    (λ c κs. (refl, there (c .before .before .before .before .before .before .before .before .before .before .before .before .before .before .before .before .before .before), c .before .before .before .before .before .before .before .before .before .before .before .before .before .before .before .before .before .before .before .before .before .before .before .pre .0, c .before .before .before .before .before .before .before .before .before .before .before .before .before .before .before .before .before .before .before .before .before .before .before .pre .1))
     (λ c. search needs)
-    returns-4)
+    (λ c. c .before .before .full-route .ensures))

@@ -1,8 +1,8 @@
 -- `carry_of` meets its contract: its test is the definition's.
 use borrow.Author.Tests.{lt-ltb, le-ltb}
 use native.Mathlib.Omega.{arith}
-use Rattle.addition.proofs.sum.carry_of.Statement.{statement}
-use Rattle.addition.proofs.sum.carry_of.Tie as tie
+use Rattle.addition.proofs.short.carry_of.Statement.{statement}
+use Rattle.addition.proofs.short.carry_of.Tie as tie
 
 pub carry-of-spec : {M : Type 1} → statement M
 carry-of-spec =
