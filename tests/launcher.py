@@ -124,8 +124,14 @@ class Files(unittest.TestCase):
         status, out, err = shell('"$T"')
         self.assertEqual((status, err), (0, b""))
         self.assertIn(b"\n  calc ", out)
-        for command in ('"$T" --help', '"$T" -h', '"$T" calc --help'):
+        for command in ('"$T" --help', '"$T" -h', '"$T" install --help'):
             self.assertEqual(shell(command), (0, out, b""), command)
+        for program, words in (("calc", (b"push N", b"re-stack")), ("vectors", (b"LENGTH:HEX*",))):
+            status, more, err = shell(f'"$T" {program} --help')
+            self.assertEqual((status, err), (0, b""))
+            for word in words:
+                self.assertIn(word, more)
+            self.assertEqual(shell(f'"$P/bin/trenailer" {program} -h'), (0, more, b""))
         status, out, err = shell('"$T" --version')
         self.assertRegex(out, rb"^trenailer [0-9]+\.[0-9]+\.[0-9]+\n$")
 
