@@ -120,6 +120,14 @@ class Files(unittest.TestCase):
             self.assertEqual((status, out), (2, b""), command)
             self.assertTrue(err.startswith(b"trenailer: " + word), err)
 
+    def test_answers_into_the_sheet(self):
+        for command in ('"$T" calc same.txt >> same.txt', '"$T" calc < same.txt >> same.txt', '"$T" calc ./same.txt > same.txt'):
+            (here / "same.txt").write_bytes(SLIP)
+            status, out, err = shell(command)
+            self.assertEqual((status, out), (2, b""), command)
+            self.assertIn(b"what calc reads is the file that its answers are written to", err)
+            self.assertEqual((here / "same.txt").read_bytes(), SLIP if ">>" in command else b"")
+
     def test_what_there_is(self):
         status, out, err = shell('"$T"')
         self.assertEqual((status, err), (0, b""))
