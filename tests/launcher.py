@@ -115,7 +115,7 @@ class Files(unittest.TestCase):
 
     def test_what_is_not_run(self):
         for command, word in (('"$T" calc none.txt', b"there is no file none.txt"), ('"$T" calc .', b". is a folder"), ('"$T" calc a b', b"too many words"),
-                              ('"$T" clac', b"there is no program clac; there are: calc vectors"), ('"$T" install', b"usage"), ('"$T" library x', b"usage")):
+                              ('"$T" clac', b"there is no program clac; there are: calc "), ('"$T" install', b"usage"), ('"$T" library x', b"usage")):
             status, out, err = shell(command)
             self.assertEqual((status, out), (2, b""), command)
             self.assertTrue(err.startswith(b"trenailer: " + word), err)
