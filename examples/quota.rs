@@ -8,7 +8,7 @@
 
 use std::process::exit;
 
-/// Of include/trenailer.h, which says what each call does.
+/// Of include/trenailer.h, which says what each call does. (In edition 2024 the block is `unsafe extern "C"`.)
 mod trenailer {
     extern "C" {
         fn trenailer_operate(

@@ -167,7 +167,19 @@ class Calls(unittest.TestCase):
         stack.bytes[:], stack.depth = bytes.fromhex("00000600000000020000"), 2
         self.assertEqual(stack.run([5, 49, 49]), (trenailer.Report.NO_ROOM, 2))
         self.assertEqual((stack.depth, stack.bytes.hex()), (2, "82400000008240000000"))
-        self.assertEqual(stack.cell(trenailer.Report.NO_ROOM), trenailer.Cell(trenailer.REFUSED, 4))
+        self.assertEqual(stack.cell(), trenailer.Cell(trenailer.REFUSED, 4))
+        self.assertEqual(stack.cell(trenailer.Report.DONE), trenailer.Cell(trenailer.VALUE, None, 3.0))
+
+    def test_a_cell_after_a_refusal(self):
+        stack = trenailer.Stack()
+        self.assertEqual(stack.cell(), trenailer.Cell(trenailer.BLANK))
+        stack.push(trenailer.whole(7)), stack.push(trenailer.whole(0))
+        self.assertEqual(stack.operate(trenailer.Literal.DIVIDE), trenailer.Report.TOO_BIG)
+        self.assertEqual(stack.cell(), trenailer.Cell(trenailer.REFUSED, 6))
+        self.assertEqual(stack.push(b""), trenailer.Report.MALFORMED)
+        self.assertEqual(stack.cell(), trenailer.Cell(trenailer.REFUSED, 3))
+        self.assertEqual(stack.operate(trenailer.Literal.DELETE), trenailer.Report.DONE)
+        self.assertEqual(stack.cell(), trenailer.Cell(trenailer.VALUE, None, 7.0))
 
 
 if __name__ == "__main__":

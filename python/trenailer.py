@@ -182,31 +182,32 @@ def whole(n: int) -> bytes:
 
 
 class Stack:
-    """A stack with its depth. `bytes` and `depth` may be read and set at will: every call takes any."""
+    """A stack with its depth, and the report of the last call. `bytes` and `depth` may be read and set at will: every call takes any."""
 
     def __init__(self, size: int = STACK_MAX):
         self.bytes = bytearray(size)
         self.depth = 0
+        self.report: int = Report.DONE
 
     def operate(self, literal: int) -> int:
         """Does one literal, and answers the report."""
-        report, self.depth = operate(self.bytes, self.depth, literal)
-        return report
+        self.report, self.depth = operate(self.bytes, self.depth, literal)
+        return self.report
 
     def push(self, number: bytes) -> int:
         """Pushes five bytes, and answers the report."""
-        report, self.depth = push(self.bytes, self.depth, number)
-        return report
+        self.report, self.depth = push(self.bytes, self.depth, number)
+        return self.report
 
     def run(self, literals: bytes) -> Tuple[int, int]:
         """Does literals in turn up to the first that is refused, and answers the report and how many were done."""
-        report, position, self.depth = run(self.bytes, self.depth, literals)
-        return report, position
+        self.report, position, self.depth = run(self.bytes, self.depth, literals)
+        return self.report, position
 
     def view(self) -> bytes:
         """The top's five bytes, or none."""
         return view(self.bytes, self.depth)
 
-    def cell(self, report: int = Report.DONE) -> Cell:
-        """The display cell of a report and this stack."""
-        return cell(report, self.bytes, self.depth)
+    def cell(self, report: Optional[int] = None) -> Cell:
+        """The display cell of this stack and the last call's report, or the report given: where that was refused it holds no value."""
+        return cell(self.report if report is None else report, self.bytes, self.depth)

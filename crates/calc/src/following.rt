@@ -15,6 +15,8 @@ struct Place {
     going: bool,
     // False once the input has ended.
     open: bool,
+    // At a terminal, after a line that could not be read: it is to be typed again.
+    owed: bool,
 }
 
 // Whether all of it could be written; standard error says so if not.
@@ -60,6 +62,7 @@ fn end_line(stack: &mut [u8], line: &[u8], at: Place, terminal: bool, returned: 
         returned,
         going: both(done.going, written),
         open: at.open,
+        owed: both(done.going, 0 < done.err),
     }
 }
 
@@ -83,6 +86,7 @@ fn take_byte(stack: &mut [u8], line: &mut [u8], at: Place, terminal: bool, byte:
                 returned: false,
                 going: at.going,
                 open: at.open,
+                owed: at.owed,
             };
         }
         return end_line(stack, line, at, terminal, false);
@@ -94,6 +98,7 @@ fn take_byte(stack: &mut [u8], line: &mut [u8], at: Place, terminal: bool, byte:
         returned: false,
         going: at.going,
         open: at.open,
+        owed: at.owed,
     }
 }
 
@@ -122,10 +127,29 @@ fn read_some(stack: &mut [u8], line: &mut [u8], at: Place, terminal: bool) -> Pl
             returned: at.returned,
             going: both(at.going, got == 0),
             open: false,
+            owed: at.owed,
         };
     }
     let n = io::count(got, &bytes);
     take_bytes(stack, line, at, terminal, &bytes[..n])
+}
+
+// A last line needs no line feed.
+fn last_line(stack: &mut [u8], line: &[u8], at: Place, terminal: bool) -> Place {
+    if 0 < at.held {
+        return end_line(stack, line, at, terminal, false);
+    }
+    at
+}
+
+// The end of the input: a line that is still to be typed again was not read.
+fn finish(owed: bool) {
+    if owed {
+        io::write_all(
+            STDERR_FILENO,
+            b"calc: the last line could not be read, and was not typed again\n",
+        );
+    }
 }
 
 // A proved loop has to end, and nothing says that the input does: it counts down from a number that no run uses up.
@@ -148,14 +172,13 @@ pub fn follow(stack: &mut [u8], line: &mut [u8]) {
         returned: false,
         going: true,
         open: true,
+        owed: false,
     };
     let mut turns = u64::MAX;
     while turns > 0 {
         at = read_some(stack, line, at, terminal);
         turns = turns_left(turns, both(at.open, at.going));
     }
-    // A last line with no line feed.
-    if 0 < at.held {
-        end_line(stack, line, at, terminal, false);
-    }
+    let last = last_line(stack, line, at, terminal);
+    finish(last.owed);
 }

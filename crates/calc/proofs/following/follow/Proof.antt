@@ -31,9 +31,7 @@ follow-spec =
     (λ c. omega arith)
     loop-again
     (λ c κs. tt)
-    (λ c. c .before .before .end-line .kept .0 ∙ c .before .before .before .before .before .before .before .before .loop .inv .0)
-    (λ c. c .before .before .before .before .before .before .before .before .loop .inv .1)
-    (λ c. tt)
-    (λ c. c .before .before .before .loop .inv .0)
-    (λ c. c .before .before .before .loop .inv .1)
+    (λ c κs. tt)
+    (λ c. c .before .before .before .last-line .kept .0 ∙ c .before .before .before .before .before .before .before .loop .inv .0)
+    (λ c. c .before .before .before .before .before .before .before .loop .inv .1)
     (λ c. tt))
