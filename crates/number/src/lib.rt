@@ -4,13 +4,13 @@ mod form;
 mod negation;
 mod operand;
 mod parts;
-mod restacking;
 mod unpacking;
 
 pub use form::Form;
 pub use form::form_of;
 pub use negation::negate;
 pub use operand::Operand;
+pub use operand::operand_of;
 pub use operand::short_operand;
 pub use parts::complement;
 pub use parts::full_word;
@@ -20,7 +20,6 @@ pub use parts::low_half;
 pub use parts::short_magnitude;
 pub use parts::short_word;
 pub use parts::swapped;
-pub use restacking::re_stack;
 pub use unpacking::Unpacked;
 pub use unpacking::unpack;
 
