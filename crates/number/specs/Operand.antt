@@ -28,6 +28,10 @@ pub record Unpacks (x : Number) (u : Operand) : Type 0 where
   pub byte : u .e < 256
   pub none : u .e ≡ 0 → packed u ≡ zeros
 
+-- what is not full goes by its word alone
+pub unpacks-short : (x : Number) (u : Operand) → x .b1 ≡ 0 → Unpacks (number 0 (x .word)) u → Unpacks x u
+unpacks-short x u h = subst (λ (b : ℕ). Unpacks (number b (x .word)) u) (sym h)
+
 -- an exponent byte is its own remainder
 pub packed-byte : (s e m : ℕ) → e < 256 → fullOf s (e % 256) m ≡ fullOf s e m
 packed-byte s e m h = ap (λ (k : ℕ). fullOf s k m) (mod-eq-of-lt h)

@@ -1,14 +1,14 @@
 -- `re_stack` meets its contract: each way out is a case of the operation; a full number stays.
 use borrow.Author.Needs.{needs}
 use Prim.Native.Nat.{ℕ}
-use mathlib.Core.Path.{_≡_, refl, sym, _∙_, ap, ap₂, subst}
+use mathlib.Core.Path.{_≡_, refl, sym, _∙_, ap, ap₂}
 use mathlib.Core.Bool.{false}
 use native.Mathlib.Nat.{mod-eq-of-lt}
 use native.Mathlib.Omega.{arith}
 use Rattle.number.specs.declared.Number.{Number}
 use Rattle.number.specs.Number.{number}
 use Rattle.number.specs.FormLaws.{malformed-full}
-use Rattle.number.specs.Operand.{Unpacks}
+use Rattle.number.specs.Operand.{Unpacks, unpacks-short}
 use Rattle.number.specs.Restack.{restacked}
 use Rattle.number.specs.RestackLaws.{restack-full}
 use Rattle.ending.specs.declared.answer.Answer.{Answer}
@@ -28,10 +28,8 @@ there c = sym (c .before .lacks .ensures) ∙ c .if1 .left
 -- a short number, by its parts
 unpacked : (c : tie.After-operand-of) → Unpacks (numberAt (c .before .before .before .before .before .before .before .before .before .before .before .before .args .stack .now) (c .before .before .before .before .before .before .before .before .before .before .before .before .args .depth) 0) (c .operand-of .result)
 unpacked c =
-    let i = c .before .before .before .before .before .before .before .before .before .before .before .before .args in
     let e = c .before .before .before .before .before in
-    subst (λ (x : Number). Unpacks x (c .operand-of .result)) (ap (λ (b : ℕ). number b (numberAt (i .stack .now) (i .depth) 0 .word)) (sym (e .if2 .left) ∙ e .before .b1-at .ensures))
-    (c .operand-of .ensures _ (sym (c .before .before .before .b2-at .ensures)) (sym (c .before .low-at .ensures)))
+    unpacks-short _ _ (sym (e .before .b1-at .ensures) ∙ e .if2 .left) (c .operand-of .ensures _ (sym (c .before .before .before .b2-at .ensures)) (sym (c .before .low-at .ensures)))
 
 pub re-stack-spec : {M : Type 1} → statement M
 unfolding rowOf
