@@ -25,7 +25,8 @@ pub fn lacks(stack: &[u8], depth: usize, takes: usize) -> bool
 pub fn lacks_at(stack: &[u8], depth: &usize, takes: usize) -> bool
     ensures { λ r. ⌜ r ≡ lacking (now (stack .entry)) (now (depth .entry)) takes ⌝ }
 {
-    if 16000 < stack.len() {
+    let len = stack.len();
+    if 16000 < len {
         return true;
     }
     let d = *depth;
@@ -35,7 +36,7 @@ pub fn lacks_at(stack: &[u8], depth: &usize, takes: usize) -> bool
     if 3200 < d {
         return true;
     }
-    9223372036854775808 <= std::num::wrapping_sub_usize(stack.len(), 5 * d)
+    9223372036854775808 <= std::num::wrapping_sub_usize(len, 5 * d)
 }
 
 // Which report it is; 4 where neither 1 nor 2 is. It asks anew and in its own way (`over_limits`): with the same tests as above, the compiler would
