@@ -1,5 +1,5 @@
-// An operand, read from its slot. The word is read behind the question whether the number is full: with it read before, the compiler keeps the words of both
-// operands while it looks at their forms.
+// An operand, read from its slot. What is read is read behind the question whether the number is full: a full one's word, another's b2 and low half. With a word
+// read before, the compiler keeps the words of both operands while it looks at their forms.
 use number::Operand;
 ghost use Rattle.number.specs.Operand.{Unpacks};
 ghost use Rattle.slots.specs.Reach.{numberAt};
@@ -17,5 +17,8 @@ pub(crate) fn operand(stack: &[u8], depth: usize, above: u8) -> Operand
             e: b1 as u32,
         };
     }
-    number::short_operand(slots::word_at(stack, depth, above))
+    number::operand_of(
+        slots::b2_at(stack, depth, above),
+        slots::low_at(stack, depth, above),
+    )
 }

@@ -2,20 +2,19 @@
 use crate::operand::operand;
 use crate::storing::store;
 use literals::table;
-ghost use Prim.Native.Nat.{_^_, _/_, _<_};
 ghost use mathlib.Core.Path.{_≡_};
 ghost use mathlib.Core.Bool.{false};
-ghost use Rattle.number.specs.Number.{malformed, fullOf};
-ghost use Rattle.number.specs.Restack.{restacked};
-ghost use Rattle.slots.specs.Reach.{lacking, numberAt};
+ghost use Rattle.number.specs.Operand.{operand as operandOf, Unpacks};
+ghost use Rattle.slots.specs.Reach.{numberAt};
 ghost use Rattle.literals.specs.Operate.{outcome, operateOf};
+ghost use Rattle.binary.specs.Quotient.{First};
 
 // A dividend that counts as zero goes the same way apart, so that any other is not asked about again.
 pub fn divide(stack: &mut [u8], depth: &mut usize) -> u8
     ensures { λ r. ⌜ operateOf (now (stack .entry)) (now (depth .entry)) 5 ≡ (outcome r (now (depth .exit)), now (stack .exit)) ⌝ }
 {
     let old = *depth;
-    if slots::lacks(stack, old, table::DIVIDE_TAKES) {
+    if slots::lacks_at(stack, depth, table::DIVIDE_TAKES) {
         return slots::refusal(stack, old, table::DIVIDE_TAKES);
     }
     let a = operand(stack, old, 1);
@@ -28,17 +27,39 @@ pub fn divide(stack: &mut [u8], depth: &mut usize) -> u8
     divided(stack, depth, old, a.sign, a.m, a.e)
 }
 
-// With the first number re-stacked.
+// With the first number re-stacked. A full divisor and a short one go on apart: the compiler then has each one's exponent where it is used.
 fn divided(stack: &mut [u8], depth: &mut usize, old: usize, sign: u32, m: u32, e: u32) -> u8
-    requires { ⌜ (now depth ≡ old) × (lacking (now stack) old 2 ≡ false) × (malformed (numberAt (now stack) old 1) ≡ false)
-        × (e < 256) × (fullOf (sign / 2 ^ 31) e m ≡ restacked (numberAt (now stack) old 1)) ⌝ }
+    requires { ⌜ First (now stack) (now depth) old sign m e ⌝ }
     ensures { λ r. ⌜ operateOf (now (stack .entry)) (now (depth .entry)) 5 ≡ (outcome r (now (depth .exit)), now (stack .exit)) ⌝ }
 {
-    let b = operand(stack, old, 0);
+    let b1 = slots::b1_at(stack, old, 0);
+    if b1 != 0 {
+        let word = slots::word_at(stack, old, 0);
+        return quotient(stack, depth, old, sign, m, e, word, word, b1 as u32);
+    }
+    let b = number::operand_of(slots::b2_at(stack, old, 0), slots::low_at(stack, old, 0));
     if b.malformed {
         return 3;
     }
-    let answer = division::division(sign, m, e, b.sign, b.m, b.e);
+    quotient(stack, depth, old, sign, m, e, b.sign, b.m, b.e)
+}
+
+// With both re-stacked.
+fn quotient(
+    stack: &mut [u8],
+    depth: &mut usize,
+    old: usize,
+    sign: u32,
+    m: u32,
+    e: u32,
+    t: u32,
+    n: u32,
+    f: u32,
+) -> u8
+    requires { ⌜ First (now stack) (now depth) old sign m e × Unpacks (numberAt (now stack) old 0) (operandOf false t n f) ⌝ }
+    ensures { λ r. ⌜ operateOf (now (stack .entry)) (now (depth .entry)) 5 ≡ (outcome r (now (depth .exit)), now (stack .exit)) ⌝ }
+{
+    let answer = division::division(sign, m, e, t, n, f);
     store(
         stack,
         depth,

@@ -44,6 +44,12 @@ swapped-word b c d e p q r s =
     let are = word-bytes e d c b s r q p in
     ap₂ (λ (i j : ℕ). wordOf i j (w / 2 ^ 16 % 256) (w / 2 ^ 24)) (are .3) (are .2) ∙ ap₂ (wordOf b c) (are .1) (are .0)
 
+-- the word of a sign byte and a low half, the other way round
+pub swapped-halves : (b h : ℕ) → b < 256 → h < 2 ^ 16 → swappedOf (b + h * 256) ≡ halves b h .word
+swapped-halves b h p q =
+    let is : b + h * 256 ≡ wordOf 0 (h / 256) (h % 256) b = omega arith in
+    ap swappedOf is ∙ swapped-word b (h % 256) (h / 256) 0 p (omega arith) (omega arith) (omega arith)
+
 -- what is written as a low half is read as one
 pub low-halves : (b h : ℕ) → h < 2 ^ 16 → low (halves b h) ≡ h
 low-halves b h g =

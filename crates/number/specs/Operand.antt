@@ -28,6 +28,10 @@ pub record Unpacks (x : Number) (u : Operand) : Type 0 where
   pub byte : u .e < 256
   pub none : u .e ≡ 0 → packed u ≡ zeros
 
+-- what is not full goes by its word alone
+pub unpacks-short : (x : Number) (u : Operand) → x .b1 ≡ 0 → Unpacks (number 0 (x .word)) u → Unpacks x u
+unpacks-short x u h = subst (λ (b : ℕ). Unpacks (number b (x .word)) u) (sym h)
+
 -- an exponent byte is its own remainder
 pub packed-byte : (s e m : ℕ) → e < 256 → fullOf s (e % 256) m ≡ fullOf s e m
 packed-byte s e m h = ap (λ (k : ℕ). fullOf s k m) (mod-eq-of-lt h)
@@ -57,14 +61,14 @@ away-plus : (h r : ℕ) → h < 2 ^ 16 → r < 2 ^ 32 → (r + 0) % 2 ^ 32 ≡ h
 away-plus h r l g x = omega arith
 
 -- what the mask makes of a number that is not malformed: its b2 is 255 unless it is 0
-pub record Masked (w r : ℕ) : Type 0 where
+pub record Masked (w b r : ℕ) : Type 0 where
   pub formed : malformed (number 0 w) ≡ false
   pub away : r % 2 ^ 16 ≡ shortMagnitude (number 0 w)
-  pub signs : w / 2 ^ 24 * 16843009 / 2 ^ 31 ≡ w / 2 ^ 31
+  pub signs : b * 16843009 / 2 ^ 31 ≡ w / 2 ^ 31
 
-pub masked : (w r : ℕ) → w < 2 ^ 32 → r < 2 ^ 32 → (0 < w / 2 ^ 24 → w / 2 ^ 24 ≡ 255)
-    → (r + w / 2 ^ 24 * 16843009) % 2 ^ 32 ≡ bitXor (low (number 0 w)) (w / 2 ^ 24 * 16843009) → Masked w r
-masked w r l g n e = go (eq-zero-or-pos (w / 2 ^ 24))
+pub masked : (w b r : ℕ) → w < 2 ^ 32 → r < 2 ^ 32 → w / 2 ^ 24 ≡ b → (0 < b → b ≡ 255)
+    → (r + b * 16843009) % 2 ^ 32 ≡ bitXor (low (number 0 w)) (b * 16843009) → Masked w b r
+masked w b r l g i n e = go (eq-zero-or-pos b)
   where
     h : ℕ
     h = low (number 0 w)
@@ -75,7 +79,7 @@ masked w r l g n e = go (eq-zero-or-pos (w / 2 ^ 24))
     top : ℕ → ℕ
     top k = k * 16843009 / 2 ^ 31
 
-    go : (w / 2 ^ 24 ≡ 0) ⊎ (0 < w / 2 ^ 24) → Masked w r
+    go : (b ≡ 0) ⊎ (0 < b) → Masked w b r
     go (inl z) =
         let small : w < 2 ^ 24 = omega arith in
         let plus : w / 2 ^ 31 ≡ 0 = omega arith in

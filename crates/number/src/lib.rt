@@ -1,15 +1,13 @@
 // Five-byte numbers of the Spectrum's calculator: their forms, re-stacking and negation.
 // Every function takes any five bytes.
 mod form;
-mod negation;
 mod operand;
 mod parts;
-mod restacking;
 
 pub use form::Form;
 pub use form::form_of;
-pub use negation::negate;
 pub use operand::Operand;
+pub use operand::operand_of;
 pub use operand::short_operand;
 pub use parts::complement;
 pub use parts::full_word;
@@ -19,7 +17,6 @@ pub use parts::low_half;
 pub use parts::short_magnitude;
 pub use parts::short_word;
 pub use parts::swapped;
-pub use restacking::re_stack;
 
 // A number is five bytes b1 to b5. The word is b2 to b5, high byte first. It stands before b1 so that the compiler, which moves the struct as one
 // machine word, has it in the low half and stores its bytes at once.

@@ -1,6 +1,8 @@
 // A number as the arithmetic takes it, without its re-stacked form being written out.
 use super::parts::low_half;
-ghost use Rattle.number.specs.Number.{number};
+ghost use mathlib.Core.Path.{_≡_};
+ghost use Prim.Native.Nat.{ℕ, _^_, _/_};
+ghost use Rattle.number.specs.Number.{number, low};
 ghost use Rattle.number.specs.Operand.{Unpacks};
 
 // The sign is the top bit of a word, whatever its other bits are. The mantissa's top bit goes without saying. A zero has mantissa 0 and exponent byte 0.
@@ -11,12 +13,12 @@ pub struct Operand {
     pub e: u32,
 }
 
-// Of a number whose b1 is 0. Of a well-formed one, b2 is 0 or 255, and a mask of its bits makes two's complement without a branch on the sign.
-pub fn short_operand(word: u32) -> Operand
-    ensures { λ r. ⌜ Unpacks (number 0 word) r ⌝ }
+// Of a number whose b1 is 0, by its b2 and its low half. Of a well-formed one, b2 is 0 or 255, and a mask of its bits makes two's complement without a
+// branch on the sign.
+pub fn operand_of(b2: u8, half: u16) -> Operand
+    ensures { λ r. ⌜ ((w : ℕ) → w / 2 ^ 24 ≡ b2 → low (number 0 w) ≡ half → Unpacks (number 0 w) r) ⌝ }
 {
-    let b2 = word / 16777216;
-    if std::num::wrapping_sub_u32(b2, 1) < 254 {
+    if std::num::wrapping_sub_u8(b2, 1) < 254 {
         return Operand {
             malformed: true,
             sign: 0,
@@ -24,8 +26,8 @@ pub fn short_operand(word: u32) -> Operand
             e: 0,
         };
     }
-    let mask = b2 * 16843009;
-    let v = std::num::wrapping_sub_u32(low_half(word) as u32 ^ mask, mask) % 65536;
+    let mask = b2 as u32 * 16843009;
+    let v = std::num::wrapping_sub_u32(half as u32 ^ mask, mask) % 65536;
     if v == 0 {
         return Operand {
             malformed: false,
@@ -41,4 +43,11 @@ pub fn short_operand(word: u32) -> Operand
         m: v << places,
         e: 160 - places,
     }
+}
+
+// The same by its word.
+pub fn short_operand(word: u32) -> Operand
+    ensures { λ r. ⌜ Unpacks (number 0 word) r ⌝ }
+{
+    operand_of((word / 16777216) as u8, low_half(word))
 }

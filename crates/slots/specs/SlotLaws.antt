@@ -1,13 +1,13 @@
 -- Laws of slots: five stores are a putSlot, and a slot is its five bytes.
 use Prim.Native.Nat.{ℕ, suc, _+_, _*_, _^_, _/_, _%_, _≤_, _<_}
-use mathlib.Core.Path.{_≡_, refl, sym, _∙_, ap}
+use mathlib.Core.Path.{_≡_, refl, sym, _∙_, ap, ap₂}
 use mathlib.Core.List.{List, [], _∷_, _++_, append-assoc}
 use native.Mathlib.Omega.{arith}
 use native.Mathlib.Numerals.{towards-suc, add-five}
 use lib.ListN.{length, set, getD, take, drop, take-append-drop, length-append, length-take, length-drop}
 use lib.Seq.{set-comm, sets-eq, drop-cons, drop-drop, take-all}
 use Rattle.number.specs.declared.Number.{Number}
-use Rattle.number.specs.Number.{wordOf, swappedOf}
+use Rattle.number.specs.Number.{b2, low, wordOf, swappedOf}
 use Rattle.number.specs.NumberLaws.{word-bytes, swapped-word}
 use Rattle.slots.specs.Slots.{slot, numberIn, bytesOf, putSlot, putIn}
 
@@ -21,6 +21,14 @@ putFour s i f = set (set (set (set s (5 * i + 1) (f % 256)) (5 * i + 2) (f / 2 ^
 pub four-word : (s : List ℕ) (i : ℕ) → ((k : ℕ) → getD s k 0 < 256) → swappedOf (fourIn s i) ≡ numberIn s i .word
 unfolding numberIn
 four-word s i b = swapped-word _ _ _ _ (b (5 * i + 1)) (b (5 * i + 2)) (b (5 * i + 3)) (b (5 * i + 4))
+
+-- what a short number goes by
+pub parts-in : (s : List ℕ) (i : ℕ) → ((k : ℕ) → getD s k 0 < 256)
+    → (b2 (numberIn s i) ≡ getD s (5 * i + 1) 0) × (low (numberIn s i) ≡ 256 * getD s (5 * i + 3) 0 + getD s (5 * i + 2) 0)
+unfolding numberIn
+parts-in s i b =
+    let are = word-bytes _ _ _ _ (b (5 * i + 1)) (b (5 * i + 2)) (b (5 * i + 3)) (b (5 * i + 4)) in
+    (are .0, ap₂ (λ (c d : ℕ). 256 * d + c) (are .1) (are .2))
 
 -- five bytes are read: the slot
 abbrev pub fiveAt : List ℕ → ℕ → List ℕ

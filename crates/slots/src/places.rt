@@ -5,7 +5,7 @@ use number::Number;
 ghost use mathlib.Core.Path.{_≡_};
 ghost use Prim.Native.Nat.{_+_, _*_, _≤_};
 ghost use lib.ListN.{length};
-ghost use Rattle.number.specs.Number.{number as numberOf, malformed};
+ghost use Rattle.number.specs.Number.{number as numberOf, b2, low, malformed};
 ghost use Rattle.slots.specs.Slots.{putIn};
 ghost use Rattle.slots.specs.SlotLaws.{fourIn, putFour};
 ghost use Rattle.slots.specs.Reach.{numberAt, putAt};
@@ -27,6 +27,34 @@ pub fn b1_at(stack: &[u8], depth: usize, above: u8) -> u8
         return 0;
     }
     stack[5 * (depth - nth)]
+}
+
+pub fn b2_at(stack: &[u8], depth: usize, above: u8) -> u8
+    ensures { λ r. ⌜ r ≡ b2 (numberAt (now (stack .entry)) depth above) ⌝ }
+{
+    let nth = above as usize + 1;
+    if lacks(stack, depth, nth) {
+        return 0;
+    }
+    stack[5 * (depth - nth) + 1]
+}
+
+fn half(b3: u8, b4: u8) -> u16
+    ensures { λ r. ⌜ r ≡ 256 * b4 + b3 ⌝ }
+{
+    256 * b4 as u16 + b3 as u16
+}
+
+// A short number's low half, two bytes that the compiler reads at once.
+pub fn low_at(stack: &[u8], depth: usize, above: u8) -> u16
+    ensures { λ r. ⌜ r ≡ low (numberAt (now (stack .entry)) depth above) ⌝ }
+{
+    let nth = above as usize + 1;
+    if lacks(stack, depth, nth) {
+        return 0;
+    }
+    let at = 5 * (depth - nth);
+    half(stack[at + 2], stack[at + 3])
 }
 
 pub fn word_at(stack: &[u8], depth: usize, above: u8) -> u32

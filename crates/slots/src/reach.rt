@@ -20,6 +20,25 @@ pub fn lacks(stack: &[u8], depth: usize, takes: usize) -> bool
     (stack.len() as u32) < 5 * (depth as u32)
 }
 
+// The same of a depth that is lent. It is read behind the first test, so that the compiler has to jump there too, and the last test may then go by the
+// product that an address is made of.
+pub fn lacks_at(stack: &[u8], depth: &usize, takes: usize) -> bool
+    ensures { λ r. ⌜ r ≡ lacking (now (stack .entry)) (now (depth .entry)) takes ⌝ }
+{
+    let len = stack.len();
+    if 16000 < len {
+        return true;
+    }
+    let d = *depth;
+    if d < takes {
+        return true;
+    }
+    if 3200 < d {
+        return true;
+    }
+    9223372036854775808 <= std::num::wrapping_sub_usize(len, 5 * d)
+}
+
 // Which report it is; 4 where neither 1 nor 2 is. It asks anew and in its own way (`over_limits`): with the same tests as above, the compiler would
 // compute them once for both, and branch on none.
 pub fn refusal(stack: &[u8], depth: usize, takes: usize) -> u8

@@ -20,8 +20,13 @@ pub fn negate(stack: &mut [u8], depth: usize) -> u8
         slots::put_at(stack, depth, 0, b1, flipped);
         return 0;
     }
-    let n = number::negate(Number { b1, word });
-    slots::put_at(stack, depth, 0, n.b1, n.word);
+    // With b2 lowest: taken from 255, it has the other sign byte and the low half in two's complement.
+    let four = number::swapped(word) % 16777216;
+    if four == 0 {
+        return 0;
+    }
+    let other = std::num::wrapping_sub_u32(255, four) % 16777216;
+    slots::put_at(stack, depth, 0, 0, number::swapped(other));
     0
 }
 
@@ -31,16 +36,23 @@ pub fn re_stack(stack: &mut [u8], depth: usize) -> u8
     if slots::lacks(stack, depth, table::RE_STACK_TAKES) {
         return slots::refusal(stack, depth, table::RE_STACK_TAKES);
     }
-    if slots::malformed_at(stack, depth, 0) {
-        return 3;
-    }
     let b1 = slots::b1_at(stack, depth, 0);
     if b1 != 0 {
         return 0;
     }
-    let word = slots::word_at(stack, depth, 0);
-    let n = number::re_stack(Number { b1, word });
-    slots::put_at(stack, depth, 0, n.b1, n.word);
+    let n = number::operand_of(
+        slots::b2_at(stack, depth, 0),
+        slots::low_at(stack, depth, 0),
+    );
+    if n.malformed {
+        return 3;
+    }
+    if n.e == 0 {
+        slots::put_at(stack, depth, 0, 0, 0);
+        return 0;
+    }
+    let word = n.m % 2147483648 + n.sign / 2147483648 * 2147483648;
+    slots::put_at(stack, depth, 0, (n.e % 256) as u8, word);
     0
 }
 

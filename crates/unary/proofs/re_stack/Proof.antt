@@ -1,10 +1,14 @@
 -- `re_stack` meets its contract: each way out is a case of the operation; a full number stays.
 use borrow.Author.Needs.{needs}
-use mathlib.Core.Path.{_≡_, refl, sym, _∙_, ap}
+use Prim.Native.Nat.{ℕ}
+use mathlib.Core.Path.{_≡_, refl, sym, _∙_, ap, ap₂}
 use mathlib.Core.Bool.{false}
+use native.Mathlib.Nat.{mod-eq-of-lt}
 use native.Mathlib.Omega.{arith}
 use Rattle.number.specs.declared.Number.{Number}
-use Rattle.number.specs.Number.{malformed}
+use Rattle.number.specs.Number.{number}
+use Rattle.number.specs.FormLaws.{malformed-full}
+use Rattle.number.specs.Operand.{Unpacks, unpacks-short}
 use Rattle.number.specs.Restack.{restacked}
 use Rattle.number.specs.RestackLaws.{restack-full}
 use Rattle.ending.specs.declared.answer.Answer.{Answer}
@@ -21,8 +25,11 @@ f = λ x. Done (restacked x)
 there : (c : tie.Else1) → lacking (c .before .before .before .before .args .stack .now) (c .before .before .before .before .args .depth) 1 ≡ false
 there c = sym (c .before .lacks .ensures) ∙ c .if1 .left
 
-formed : (c : tie.Else2) → malformed (numberAt (c .before .before .before .before .before .before .before .args .stack .now) (c .before .before .before .before .before .before .before .args .depth) 0) ≡ false
-formed c = sym (c .before .malformed-at .ensures) ∙ c .if2 .left
+-- a short number, by its parts
+unpacked : (c : tie.After-operand-of) → Unpacks (numberAt (c .before .before .before .before .before .before .before .before .before .before .before .before .args .stack .now) (c .before .before .before .before .before .before .before .before .before .before .before .before .args .depth) 0) (c .operand-of .result)
+unpacked c =
+    let e = c .before .before .before .before .before in
+    unpacks-short _ _ (sym (e .before .b1-at .ensures) ∙ e .if2 .left) (c .operand-of .ensures _ (sym (c .before .before .before .b2-at .ensures)) (sym (c .before .low-at .ensures)))
 
 pub re-stack-spec : {M : Type 1} → statement M
 unfolding rowOf
@@ -35,14 +42,30 @@ re-stack-spec =
     (λ c. let t = c .before .before in one-lacking _ _ 61 f refl (sym (t .before .lacks .ensures) ∙ t .if1 .taken) _ (c .refusal .ensures))
     (λ c κs. tt)
     (λ c. search needs)
-    (λ c. one-malformed _ _ 61 f refl (there (c .before .before .before)) (sym (c .before .malformed-at .ensures) ∙ c .if2 .taken))
+    (λ c.
+    let full : ¬ (_≡_ {A = ℕ} _ 0) = λ z. c .if2 .taken (c .before .b1-at .ensures ∙ z) in
+    one-kept _ _ 61 f refl (there (c .before .before .before)) (λ k. omega (arith, c .before .before .before .before .before .before .slice-known .given k)) (malformed-full _ full) (ap Done (restack-full _ full)))
+    (λ c κs. tt)
+    (λ c κs. tt)
     (λ c κs. tt)
     (λ c. search needs)
-    (λ c. one-kept _ _ 61 f refl (there (c .before .before .before .before .before .before)) (λ k. omega (arith, c .before .before .before .before .before .before .before .before .before .slice-known .given k)) (formed (c .before .before .before)) (ap Done (restack-full _ (λ z. c .if3 .taken (c .before .b1-at .ensures ∙ z)))))
-    (λ c κs. tt)
-    (λ c κs. tt)
+    (λ c. one-malformed _ _ 61 f refl (there (c .before .before .before .before .before .before .before .before .before)) (sym (unpacked (c .before) .form) ∙ c .if3 .taken))
     (λ c κs. tt)
     (λ c. search needs)
     (λ c.
     let p = c .before .before in
-    one-put _ _ 61 f refl (there (c .before .before .before .before .before .before .before .before .before .before .before .before .before)) (c .before .before .before .before .before .before .before .before .b1-at .ensures) (c .before .before .before .before .before .word-at .ensures) (formed (c .before .before .before .before .before .before .before .before .before .before)) (ap Done (sym (p .before .before .re-stack .ensures))) (p .put-at .ensures)))
+    let o = c .before .before .before .before .before .before in
+    let u = unpacked (o .before) in
+    let m = sym (u .form) ∙ o .if3 .left in
+    one-put _ _ 61 f refl (there (c .before .before .before .before .before .before .before .before .before .before .before .before .before .before .before)) refl refl m (ap Done (sym (u .stands m) ∙ u .none (p .before .before .if4 .taken))) (p .put-at .ensures))
+    (λ c. omega arith)
+    (λ c. omega arith)
+    (λ c. omega arith)
+    (λ c κs. tt)
+    (λ c. search needs)
+    (λ c.
+    let p = c .before .before in
+    let o = c .before .before .before .before .before .before .before .before .before in
+    let u = unpacked (o .before) in
+    let m = sym (u .form) ∙ o .if3 .left in
+    one-put _ _ 61 f refl (there (c .before .before .before .before .before .before .before .before .before .before .before .before .before .before .before .before .before .before)) refl refl m (ap Done (sym (u .stands m) ∙ ap₂ number (sym (mod-eq-of-lt (u .byte))) (omega arith))) (p .put-at2 .ensures)))

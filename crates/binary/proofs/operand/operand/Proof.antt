@@ -1,10 +1,10 @@
--- `operand` meets its contract: a full number as it is, and any other by its word.
+-- `operand` meets its contract: a full number as it is, and any other by its b2 and its low half.
 use mathlib.Core.Path.{_≡_, sym, _∙_, ap₂, subst}
 use mathlib.Core.Bool.{false}
 use native.Mathlib.Omega.{arith}
 use Rattle.number.specs.declared.Number.{Number}
 use Rattle.number.specs.Number.{number}
-use Rattle.number.specs.Operand.{Unpacks, operand, full-operand}
+use Rattle.number.specs.Operand.{Unpacks, operand, full-operand, unpacks-short}
 use Rattle.binary.proofs.operand.operand.Statement.{statement}
 use Rattle.binary.proofs.operand.operand.Tie as tie
 
@@ -17,8 +17,8 @@ returns c =
 
 returns-2 : tie.Need-returns-2
 returns-2 c =
-    let d = c .before in
-    subst (λ (x : Number). Unpacks x (c .short-operand .result)) (ap₂ number (sym (d .before .if1 .left) ∙ d .before .before .b1-at .ensures) (d .word-at2 .ensures)) (c .short-operand .ensures)
+    let e = c .before .before .before in
+    unpacks-short _ _ (sym (e .before .b1-at .ensures) ∙ e .if1 .left) (c .operand-of .ensures _ (sym (c .before .before .b2-at .ensures)) (sym (c .before .low-at .ensures)))
 
 pub operand-spec : {M : Type 1} → statement M
-operand-spec = tie.close (tie.spec (λ c κs. tt) (λ c κs. tt) (λ c. omega arith) returns (λ c κs. tt) (λ c κs. tt) returns-2)
+operand-spec = tie.close (tie.spec (λ c κs. tt) (λ c κs. tt) (λ c. omega arith) returns (λ c κs. tt) (λ c κs. tt) (λ c κs. tt) returns-2)

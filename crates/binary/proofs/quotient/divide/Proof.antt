@@ -11,8 +11,8 @@ use Rattle.binary.proofs.quotient.divide.Statement.{statement}
 use Rattle.binary.proofs.quotient.divide.Tie as tie
 
 -- both numbers are there
-there : (c : tie.Else1) → lacking (c .before .before .before .before .before .args .stack .now) (c .before .before .before .before .before .args .depth .now) 2 ≡ false
-there c = sym (c .before .lacks .ensures) ∙ c .if1 .left
+there : (c : tie.Else1) → lacking (c .before .before .before .before .before .before .args .stack .now) (c .before .before .before .before .before .before .args .depth .now) 2 ≡ false
+there c = sym (c .before .lacks-at .ensures) ∙ c .if1 .left
 
 pub divide-spec : {M : Type 1} → statement M
 divide-spec =
@@ -21,7 +21,7 @@ divide-spec =
     (λ c κs. tt)
     (λ c κs. tt)
     (λ c. search needs)
-    (λ c. let t = c .before .before in two-lacking _ _ _ quotientOf division-line (sym (t .before .lacks .ensures) ∙ t .if1 .taken) _ (c .refusal .ensures))
+    (λ c. let t = c .before .before in two-lacking _ _ _ quotientOf division-line (sym (t .before .lacks-at .ensures) ∙ t .if1 .taken) _ (c .refusal .ensures))
     (λ c κs. tt)
     (λ c. search needs)
     (λ c. two-malformed _ _ _ quotientOf division-line (there (c .before .before .before)) (simp (sym (c .before .operand .ensures .form) ∙ c .if2 .taken)))
@@ -30,13 +30,13 @@ divide-spec =
     let n = t .before .before in
     let o = n .before .operand .ensures in
     let m = sym (o .form) ∙ n .if2 .left in
-    (refl, there (n .before .before .before), m, omega arith, sym (o .none (t .if3 .taken)) ∙ o .stands m))
+    record { same = refl; there = there (n .before .before .before); first = record { form = sym m; stands = λ k. sym (o .none (t .if3 .taken)) ∙ o .stands k; byte = omega arith; none = λ z. refl } })
     (λ c. search needs)
     (λ c. search needs)
     (λ c κs.
     let n = c .before .before .before .before in
     let o = n .before .operand .ensures in
     let m = sym (o .form) ∙ n .if2 .left in
-    (refl, there (n .before .before .before), m, o .byte, o .stands m))
+    record { same = refl; there = there (n .before .before .before); first = record { form = sym m; stands = o .stands; byte = o .byte; none = o .none } })
     (λ c. search needs)
     (λ c. search needs))

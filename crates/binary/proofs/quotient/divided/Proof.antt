@@ -1,46 +1,60 @@
--- `divided` meets its contract: the answer is the quotient of the numbers re-stacked.
+-- `divided` meets its contract: the second number has its parts too, or is malformed.
 use borrow.Author.Needs.{needs}
 use Prim.Native.Nat.{ℕ}
-use mathlib.Core.Path.{_≡_, refl, sym, _∙_, ap, ap₂}
-use Rattle.number.specs.Operand.{packed-byte}
-use Rattle.division.specs.Division.{quotientOf, restackedQuotient}
+use mathlib.Core.Path.{_≡_, sym, _∙_, ap, ap₂, subst}
+use mathlib.Core.Bool.{false}
+use native.Mathlib.Omega.{arith}
+use Rattle.number.specs.declared.Number.{Number}
+use Rattle.number.specs.Number.{number}
+use Rattle.number.specs.Operand.{operand, Unpacks, full-operand, unpacks-short}
+use Rattle.division.specs.Division.{quotientOf}
+use Rattle.slots.specs.Reach.{numberAt}
 use Rattle.literals.specs.Operate.{outcome, operateOf}
 use Rattle.literals.specs.WayLaws.{two-malformed}
-use Rattle.binary.specs.Stored.{storedOf, two-stored}
 use Rattle.binary.specs.Quotient.{division-line}
 use Rattle.binary.proofs.quotient.divided.Statement.{statement}
 use Rattle.binary.proofs.quotient.divided.Tie as tie
 
-returns : tie.Need-returns
-returns c =
-    let d = c .before in
-    let i = d .before .before .before in
-    ap (λ (k : ℕ). operateOf (i .args .stack .now) k 5) (i .pre .0)
-    ∙ two-malformed _ _ _ quotientOf division-line (i .pre .1) (simp (i .pre .2, sym (d .operand .ensures .form) ∙ c .if1 .taken))
-    ∙ ap (λ (k : ℕ). (outcome 3 k, i .args .stack .now)) (sym (i .pre .0))
+-- a full divisor
+whole : (c : tie.After-word-at) → Unpacks (numberAt (c .before .before .before .before .before .before .args .stack .now) (c .before .before .before .before .before .before .args .old) 0) (operand false (c .word-at .result) (c .word-at .result) (c .before .before .before .b1-at .result))
+whole c =
+    let d = c .before .before in
+    let b = d .before .b1-at .result in
+    let w = c .word-at .result in
+    subst (λ (x : Number). Unpacks x (operand false w w b)) (ap₂ number (d .before .b1-at .ensures) (c .word-at .ensures)) (full-operand (number b w) (omega arith) (d .if1 .taken))
+
+-- any other
+short : (c : tie.After-operand-of) → Unpacks (numberAt (c .before .before .before .before .before .before .before .before .before .args .stack .now) (c .before .before .before .before .before .before .before .before .before .args .old) 0) (c .operand-of .result)
+short c =
+    let e = c .before .before .before .before .before in
+    unpacks-short _ _ (sym (e .before .b1-at .ensures) ∙ e .if1 .left) (c .operand-of .ensures _ (sym (c .before .before .before .b2-at .ensures)) (sym (c .before .low-at .ensures)))
 
 returns-2 : tie.Need-returns-2
-unfolding quotientOf
 returns-2 c =
-    let p = c .before .before in
-    let a = p .before .before .before in
-    let n = a .before in
-    let b = n .before .operand in
-    let i = n .before .before .before .before in
-    let m = sym (b .ensures .form) ∙ n .if1 .left in
-    let is = a .division .ensures ∙ ap₂ restackedQuotient (packed-byte _ _ _ (i .pre .3) ∙ i .pre .4) (packed-byte _ _ _ (b .ensures .byte) ∙ b .ensures .stands m) in
-    ap (λ (k : ℕ). operateOf (i .args .stack .now) k 5) (i .pre .0)
-    ∙ two-stored _ _ _ quotientOf division-line (i .pre .1) (simp (i .pre .2, m)) _ _ _
-    (ap₂ (storedOf (i .args .stack .now)) (sym (i .pre .0)) (sym is) ∙ p .store .ensures)
+    let i = c .before .before .before .before .before .before .before .before .before .before in
+    let x = i .pre in
+    ap (λ (k : ℕ). operateOf (i .args .stack .now) k 5) (x .same)
+    ∙ two-malformed _ _ _ quotientOf division-line (x .there) (simp (sym (x .first .form), sym (short (c .before) .form) ∙ c .if2 .taken))
+    ∙ ap (λ (k : ℕ). (outcome 3 k, i .args .stack .now)) (sym (x .same))
 
 pub divided-spec : {M : Type 1} → statement M
 divided-spec =
     tie.close
     (tie.spec
     (λ c κs. tt)
-    (λ c. search needs)
-    returns
     (λ c κs. tt)
-    (λ c κs. let i = c .before .before .before .before .before .before .before in (i .pre .0, i .pre .1, refl, refl))
     (λ c. search needs)
-    returns-2)
+    (λ c κs. (c .before .before .before .before .before .before .before .before .pre, whole (c .before .before)))
+    (λ c. search needs)
+    (λ c. search needs)
+    (λ c κs. tt)
+    (λ c κs. tt)
+    (λ c κs. tt)
+    (λ c. search needs)
+    returns-2
+    (λ c κs.
+    let o = c .before .before in
+    let u = short (o .before) in
+    (c .before .before .before .before .before .before .before .before .before .before .before .before .pre, record { form = sym (o .if2 .left) ∙ u .form; stands = u .stands; byte = u .byte; none = u .none }))
+    (λ c. search needs)
+    (λ c. search needs))
