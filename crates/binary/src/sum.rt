@@ -52,14 +52,14 @@ fn sum(stack: &mut [u8], depth: &mut usize, flip: u32, taken: usize, left: usize
     ensures { λ r. ⌜ operateOf (now (stack .entry)) (now (depth .entry)) (literalOf (flips flip)) ≡ (outcome r (now (depth .exit)), now (stack .exit)) ⌝ }
 {
     let old = *depth;
-    if slots::lacks(stack, old, taken) {
+    if slots::lacks_at(stack, depth, taken) {
         return slots::refusal(stack, old, taken);
     }
     let short = short_route(stack, old, flip);
     match short {
         Short::Malformed => 3,
         Short::Stored(word) => {
-            slots::put_at(stack, old, 1, 0, word);
+            slots::put_word_at(stack, old, 1, word);
             *depth = *depth - taken + left;
             0
         }

@@ -40,10 +40,7 @@ pub(crate) fn term(stack: &[u8], depth: usize, above: u8, flip: u32) -> Summand
             e: b1 as u32,
         };
     }
-    let o = number::operand_of(
-        slots::b2_at(stack, depth, above),
-        slots::low_at(stack, depth, above),
-    );
+    let o = number::short_operand(slots::word_at(stack, depth, above));
     if o.malformed {
         return Summand {
             malformed: true,

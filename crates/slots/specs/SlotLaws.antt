@@ -5,9 +5,9 @@ use mathlib.Core.List.{List, [], _∷_, _++_, append-assoc}
 use native.Mathlib.Omega.{arith}
 use native.Mathlib.Numerals.{towards-suc, add-five}
 use lib.ListN.{length, set, getD, take, drop, take-append-drop, length-append, length-take, length-drop}
-use lib.Seq.{set-comm, sets-eq, drop-cons, drop-drop, take-all}
+use lib.Seq.{set-getD, set-comm, sets-eq, drop-cons, drop-drop, take-all}
 use Rattle.number.specs.declared.Number.{Number}
-use Rattle.number.specs.Number.{b2, low, wordOf, swappedOf}
+use Rattle.number.specs.Number.{number, b2, low, wordOf, swappedOf}
 use Rattle.number.specs.NumberLaws.{word-bytes, swapped-word}
 use Rattle.slots.specs.Slots.{slot, numberIn, bytesOf, putSlot, putIn}
 
@@ -55,12 +55,22 @@ module _ (s : List ℕ) (i : ℕ) (h : 5 * i + 5 ≤ length s) where
       ∙ five-stores a b c d e
 
   -- a number, its word swapped
-  pub put-swapped : (n : Number) → n .word < 2 ^ 32 → set (putFour s i (swappedOf (n .word))) (5 * i) (n .b1) ≡ putIn s i n
+  swapped-bytes : (n : Number) → n .word < 2 ^ 32 → (let f = swappedOf (n .word) in n .b1 ∷ f % 256 ∷ f / 2 ^ 8 % 256 ∷ f / 2 ^ 16 % 256 ∷ f / 2 ^ 24 ∷ [] ≡ bytesOf n)
   unfolding bytesOf
-  put-swapped n h =
+  swapped-bytes n h =
       let w = n .word in
       let are = word-bytes (w % 256) (w / 2 ^ 8 % 256) (w / 2 ^ 16 % 256) (w / 2 ^ 24) (omega arith) (omega arith) (omega arith) (omega arith) in
-      first-last (n .b1) _ _ _ _ ∙ ap (putSlot s i) (rw (are .0, are .1, are .2, are .3) refl)
+      rw (are .0, are .1, are .2, are .3) refl
+
+  pub put-swapped : (n : Number) → n .word < 2 ^ 32 → set (putFour s i (swappedOf (n .word))) (5 * i) (n .b1) ≡ putIn s i n
+  put-swapped n h = first-last (n .b1) _ _ _ _ ∙ ap (putSlot s i) (swapped-bytes n h)
+
+  -- with the first byte left as it is
+  pub put-word : (w : ℕ) → w < 2 ^ 32 → putFour s i (swappedOf w) ≡ putIn s i (number (numberIn s i .b1) w)
+  unfolding numberIn
+  put-word w h =
+      let b = getD s (5 * i) 0 in
+      ap (λ (t : List ℕ). putFour t i (swappedOf w)) (sym (set-getD s (5 * i) 0)) ∙ five-stores b _ _ _ _ ∙ ap (putSlot s i) (swapped-bytes (number b w) h)
 
   pub slot-five : slot s i ≡ fiveAt s (5 * i)
   unfolding slot

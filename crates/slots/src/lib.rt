@@ -12,6 +12,7 @@ pub use places::b2_at;
 pub use places::low_at;
 pub use places::malformed_at;
 pub use places::put_at;
+pub use places::put_word_at;
 pub use places::word_at;
 pub use reach::lacks;
 pub use reach::lacks_at;

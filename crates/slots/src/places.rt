@@ -115,3 +115,14 @@ pub fn put_at(stack: &mut [u8], depth: usize, above: u8, b1: u8, word: u32)
     }
     put_in(stack, depth - nth, Number { b1, word });
 }
+
+// With its b1 as it is.
+pub fn put_word_at(stack: &mut [u8], depth: usize, above: u8, word: u32)
+    ensures { λ _. ⌜ now (stack .exit) ≡ putAt (now (stack .entry)) depth above (numberOf (numberAt (now (stack .entry)) depth above .b1) word) ⌝ }
+{
+    let nth = above as usize + 1;
+    if lacks(stack, depth, nth) {
+        return;
+    }
+    put_four(stack, depth - nth, number::swapped(word));
+}

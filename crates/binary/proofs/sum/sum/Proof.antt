@@ -17,26 +17,26 @@ use Rattle.binary.proofs.sum.sum.Statement.{statement}
 use Rattle.binary.proofs.sum.sum.Tie as tie
 
 -- both numbers are there
-there : (c : tie.Else1) → (let a = c .before .before .before .before .before .args in lacking (a .stack .now) (a .depth .now) 2 ≡ false)
-there c = ap (lacking _ _) (sym (c .before .before .before .before .before .pre .1)) ∙ sym (c .before .lacks .ensures) ∙ c .if1 .left
+there : (c : tie.Else1) → (let a = c .before .before .before .before .before .before .args in lacking (a .stack .now) (a .depth .now) 2 ≡ false)
+there c = ap (lacking _ _) (sym (c .before .before .before .before .before .before .pre .1)) ∙ sym (c .before .lacks-at .ensures) ∙ c .if1 .left
 
 -- what the short route's answer says
-said : (c : tie.After-short-route) (r : Short) → c .short-route .result ≡ r → (let a = c .before .before .before .before .before .before .before .args in
+said : (c : tie.After-short-route) (r : Short) → c .short-route .result ≡ r → (let a = c .before .before .before .before .before .before .before .before .args in
     Says (flips (a .flip)) (numberAt (a .stack .now) (a .depth .now) 1) (numberAt (a .stack .now) (a .depth .now) 0) r)
 said c r e = subst (Says _ _ _) (sym (c .short-route .ensures) ∙ e) (route-says _ _ _)
 
 returns : tie.Need-returns
 returns c =
     let t = c .before .before in
-    let i = t .before .before .before .before .before in
+    let i = t .before .before .before .before .before .before in
     let l = flips (i .args .flip) in
-    two-lacking _ _ _ (totalOf l) (sum-line l) (ap (lacking _ _) (sym (i .pre .1)) ∙ sym (t .before .lacks .ensures) ∙ t .if1 .taken) _
+    two-lacking _ _ _ (totalOf l) (sum-line l) (ap (lacking _ _) (sym (i .pre .1)) ∙ sym (t .before .lacks-at .ensures) ∙ t .if1 .taken) _
     (c .refusal .ensures ∙ ap (refusalOf _ _) (i .pre .1))
 
 returns-2 : tie.Need-returns-2
 returns-2 c =
     let r = c .before .before in
-    let l = flips (r .before .before .before .before .before .before .before .args .flip) in
+    let l = flips (r .before .before .before .before .before .before .before .before .args .flip) in
     two-malformed _ _ _ (totalOf l) (sum-line l) (there (r .before .before)) (said r _ (c .enum-told .given .1))
 
 returns-3 : tie.Need-returns-3
@@ -44,13 +44,13 @@ returns-3 c =
     let p = c .before .before in
     let k = p .before .before .before in
     let r = k .before .before in
-    let i = r .before .before .before .before .before .before .before in
+    let i = r .before .before .before .before .before .before .before .before in
     let s = i .args .stack .now in
     let d = i .args .depth .now in
     let l = flips (i .args .flip) in
     let t = said r _ (k .short .given .1) in
     let after : d - 1 ≡ d - i .args .taken + i .args .left = omega (arith, i .pre, has _ _ _ (there (r .before .before))) in
-    two-done _ _ _ (totalOf l) (sum-line l) (there (r .before .before)) (t .0) _ (t .1) ∙ ap₂ (λ (e : ℕ) (u : List ℕ). (outcome 0 e, u)) after (sym (p .put-at .ensures))
+    two-done _ _ _ (totalOf l) (sum-line l) (there (r .before .before)) (t .0) _ (t .1) ∙ ap₂ (λ (e : ℕ) (u : List ℕ). (outcome 0 e, u)) after (sym (p .put-word-at .ensures))
 
 pub sum-spec : {M : Type 1} → statement M
 sum-spec =
@@ -64,10 +64,10 @@ sum-spec =
     (λ c. search needs)
     (λ c. search needs)
     (λ c κs. tt)
-    (λ c. let e = c .before .before .before .before .before .before .before .before .before in omega (arith, e .before .before .before .before .before .pre, has _ _ _ (there e)))
+    (λ c. let e = c .before .before .before .before .before .before .before .before .before in omega (arith, e .before .before .before .before .before .before .pre, has _ _ _ (there e)))
     (λ c. search needs)
     (λ c. search needs)
-    (λ c κs. let r = c .before .before .before .before in let i = r .before .before .before .before .before .before .before in (i .pre .0, i .pre .1, i .pre .2, refl, there (r .before .before), said r _ (c .before .before .enum-told2 .given .1)))
+    (λ c κs. let r = c .before .before .before .before in let i = r .before .before .before .before .before .before .before .before in (i .pre .0, i .pre .1, i .pre .2, refl, there (r .before .before), said r _ (c .before .before .enum-told2 .given .1)))
     (λ c. search needs)
     returns-2
     (λ c. search needs)
