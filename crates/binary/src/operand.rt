@@ -18,7 +18,7 @@ pub(crate) fn operand(stack: &[u8], depth: usize, above: u8) -> Operand
         };
     }
     number::operand_of(
-        slots::b2_at(stack, depth, above),
+        slots::b2_at(stack, depth, above) as u32,
         slots::low_at(stack, depth, above),
     )
 }

@@ -37,7 +37,10 @@ fn divided(stack: &mut [u8], depth: &mut usize, old: usize, sign: u32, m: u32, e
         let word = slots::word_at(stack, old, 0);
         return quotient(stack, depth, old, sign, m, e, word, word, b1 as u32);
     }
-    let b = number::operand_of(slots::b2_at(stack, old, 0), slots::low_at(stack, old, 0));
+    let b = number::operand_of(
+        slots::b2_at(stack, old, 0) as u32,
+        slots::low_at(stack, old, 0),
+    );
     if b.malformed {
         return 3;
     }

@@ -1,7 +1,7 @@
 // A number as the arithmetic takes it, without its re-stacked form being written out.
 use super::parts::low_half;
 ghost use mathlib.Core.Path.{_≡_};
-ghost use Prim.Native.Nat.{ℕ, _^_, _/_};
+ghost use Prim.Native.Nat.{ℕ, _^_, _/_, _%_};
 ghost use Rattle.number.specs.Number.{number, low};
 ghost use Rattle.number.specs.Operand.{Unpacks};
 
@@ -13,12 +13,13 @@ pub struct Operand {
     pub e: u32,
 }
 
-// Of a number whose b1 is 0, by its b2 and its low half. Of a well-formed one, b2 is 0 or 255, and a mask of its bits makes two's complement without a
+// Of a number whose b1 is 0, by its b2, as the low byte of a word, and its low half. Of a well-formed one, b2 is 0 or 255, and a mask of its bits makes two's complement without a
 // branch on the sign.
-pub fn operand_of(b2: u8, half: u16) -> Operand
-    ensures { λ r. ⌜ ((w : ℕ) → w / 2 ^ 24 ≡ b2 → low (number 0 w) ≡ half → Unpacks (number 0 w) r) ⌝ }
+pub fn operand_of(byte: u32, half: u16) -> Operand
+    ensures { λ r. ⌜ ((w : ℕ) → w / 2 ^ 24 ≡ byte % 256 → low (number 0 w) ≡ half → Unpacks (number 0 w) r) ⌝ }
 {
-    if std::num::wrapping_sub_u8(b2, 1) < 254 {
+    let b2 = byte % 256;
+    if std::num::wrapping_sub_u32(b2, 1) < 254 {
         return Operand {
             malformed: true,
             sign: 0,
@@ -26,7 +27,7 @@ pub fn operand_of(b2: u8, half: u16) -> Operand
             e: 0,
         };
     }
-    let mask = b2 as u32 * 16843009;
+    let mask = b2 * 16843009;
     let v = std::num::wrapping_sub_u32(half as u32 ^ mask, mask) % 65536;
     if v == 0 {
         return Operand {
@@ -49,5 +50,5 @@ pub fn operand_of(b2: u8, half: u16) -> Operand
 pub fn short_operand(word: u32) -> Operand
     ensures { λ r. ⌜ Unpacks (number 0 word) r ⌝ }
 {
-    operand_of((word / 16777216) as u8, low_half(word))
+    operand_of(word / 16777216, low_half(word))
 }

@@ -41,7 +41,7 @@ pub fn re_stack(stack: &mut [u8], depth: usize) -> u8
         return 0;
     }
     let n = number::operand_of(
-        slots::b2_at(stack, depth, 0),
+        slots::b2_at(stack, depth, 0) as u32,
         slots::low_at(stack, depth, 0),
     );
     if n.malformed {

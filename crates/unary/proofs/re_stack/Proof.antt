@@ -29,7 +29,7 @@ there c = sym (c .before .lacks .ensures) ∙ c .if1 .left
 unpacked : (c : tie.After-operand-of) → Unpacks (numberAt (c .before .before .before .before .before .before .before .before .before .before .before .before .args .stack .now) (c .before .before .before .before .before .before .before .before .before .before .before .before .args .depth) 0) (c .operand-of .result)
 unpacked c =
     let e = c .before .before .before .before .before in
-    unpacks-short _ _ (sym (e .before .b1-at .ensures) ∙ e .if2 .left) (c .operand-of .ensures _ (sym (c .before .before .before .b2-at .ensures)) (sym (c .before .low-at .ensures)))
+    unpacks-short _ _ (sym (e .before .b1-at .ensures) ∙ e .if2 .left) (c .operand-of .ensures _ (sym (c .before .before .before .b2-at .ensures) ∙ sym (mod-eq-of-lt (omega arith))) (sym (c .before .low-at .ensures)))
 
 pub re-stack-spec : {M : Type 1} → statement M
 unfolding rowOf
@@ -46,6 +46,7 @@ re-stack-spec =
     let full : ¬ (_≡_ {A = ℕ} _ 0) = λ z. c .if2 .taken (c .before .b1-at .ensures ∙ z) in
     one-kept _ _ 61 f refl (there (c .before .before .before)) (λ k. omega (arith, c .before .before .before .before .before .before .slice-known .given k)) (malformed-full _ full) (ap Done (restack-full _ full)))
     (λ c κs. tt)
+    (λ c. omega arith)
     (λ c κs. tt)
     (λ c κs. tt)
     (λ c. search needs)

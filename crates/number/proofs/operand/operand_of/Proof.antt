@@ -14,17 +14,17 @@ use Rattle.number.proofs.operand.operand_of.Tie as tie
 
 returns : tie.Need-returns
 returns c w i j =
-    let b = c .before .before .args .b2 in
-    let k : (0 < b) × (b < 255) = omega (arith, c .before .wrapping-sub-u8 .ensures) in
+    let b = c .before .before .args .byte % 256 in
+    let k : (0 < b) × (b < 255) = omega (arith, c .before .wrapping-sub-u32 .ensures) in
     let m = malformed-between (number 0 w) refl (omega arith) (omega arith) in
     record { form = sym m; stands = λ f. absurd (let z : _≡_ {A = ℕ} 0 1 = cc (m, f) in omega arith); byte = omega arith; none = λ e. refl }
 
-made : (d : tie.After-wrapping-sub-u32) (w : ℕ) → w / 2 ^ 24 ≡ d .before .before .before .args .b2 → low (number 0 w) ≡ d .before .before .before .args .half
-    → Masked w (d .before .before .before .args .b2) (d .wrapping-sub-u32 .result)
+made : (d : tie.After-wrapping-sub-u322) (w : ℕ) → w / 2 ^ 24 ≡ d .before .before .before .args .byte % 256 → low (number 0 w) ≡ d .before .before .before .args .half
+    → Masked w (d .before .before .before .args .byte % 256) (d .wrapping-sub-u322 .result)
 made d w i j =
     let t = d .before .before in
-    let b = t .before .args .b2 in
-    masked w b _ (omega arith) (omega arith) i (λ p. omega (arith, t .wrapping-sub-u8 .ensures, d .before .if1 .left)) (d .wrapping-sub-u32 .ensures ∙ ap (λ (h : ℕ). bitXor h (b * 16843009)) (sym j))
+    let b = t .before .args .byte % 256 in
+    masked w b _ (omega arith) (omega arith) i (λ p. omega (arith, t .wrapping-sub-u32 .ensures, d .before .if1 .left)) (d .wrapping-sub-u322 .ensures ∙ ap (λ (h : ℕ). bitXor h (b * 16843009)) (sym j))
 
 returns-2 : tie.Need-returns-2
 returns-2 c w i j =
@@ -37,7 +37,7 @@ below v h n = omega (arith, leading-top 32 v (omega arith) (omega arith) .1)
 returns-3 : tie.Need-returns-3
 returns-3 c w i j =
     let d = c .before in
-    let v = d .wrapping-sub-u32 .result % 2 ^ 16 in
+    let v = d .wrapping-sub-u322 .result % 2 ^ 16 in
     let z = leadingZeros 32 v in
     let s : z < 32 = below v (omega arith) (c .if2 .left) in
     let m = made d w i j in
@@ -58,5 +58,5 @@ operand-of-spec =
     (λ c κs. tt)
     returns-2
     (λ c. below _ (omega arith) (c .if2 .left))
-    (λ c. omega (arith, below (c .before .wrapping-sub-u32 .result % 65536) (omega arith) (c .if2 .left)))
+    (λ c. omega (arith, below (c .before .wrapping-sub-u322 .result % 65536) (omega arith) (c .if2 .left)))
     returns-3)
