@@ -24,29 +24,20 @@ pub fn operate_in_place(stack: &mut [u8], depth: &mut usize, literal: u8) -> u8
     ensures { λ r. ⌜ operateOf (now (stack .entry)) (now (depth .entry)) literal ≡ (outcome r (now (depth .exit)), now (stack .exit)) ⌝ }
 {
     match literal {
-        0 => zero(stack, *depth),
-        table::EXCHANGE => moving::exchange(stack, *depth),
+        // With an entry for 0, the literal is the index of the jump table as it is.
+        0 => unknown(stack, *depth),
+        table::EXCHANGE => moving::exchange(stack, depth),
         table::DELETE => moving::delete(stack, depth),
         table::SUBTRACT => binary::subtract(stack, depth),
         table::DIVIDE => binary::divide(stack, depth),
         table::ADD => binary::add(stack, depth),
-        table::NEGATE => unary::negate(stack, *depth),
-        table::INT => unary::int(stack, *depth),
+        table::NEGATE => unary::negate(stack, depth),
+        table::INT => unary::int(stack, depth),
         table::DUPLICATE => moving::duplicate(stack, depth),
-        table::TRUNCATE => unary::truncate(stack, *depth),
-        table::RE_STACK => unary::re_stack(stack, *depth),
+        table::TRUNCATE => unary::truncate(stack, depth),
+        table::RE_STACK => unary::re_stack(stack, depth),
         _ => unknown(stack, *depth),
     }
-}
-
-// The literal 0, which is in no row, by tests of its own: the compiler then gives it an entry of its own, and the literal is the index of the jump table as it is.
-fn zero(stack: &[u8], depth: usize) -> u8
-    ensures { λ r. ⌜ operateOf (now (stack .entry)) depth 0 ≡ (outcome r depth, now (stack .entry)) ⌝ }
-{
-    if slots::lacks(stack, depth, 0) {
-        return 1;
-    }
-    5
 }
 
 // A literal that is in no row.

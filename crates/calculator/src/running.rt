@@ -57,16 +57,16 @@ fn step(stack: &mut [u8], depth: &mut usize, literal: u8) -> u8
     ensures { λ r. ⌜ operateOf (now (stack .entry)) (now (depth .entry)) literal ≡ (outcome r (now (depth .exit)), now (stack .exit)) ⌝ }
 {
     match literal {
-        table::EXCHANGE => moving::exchange(stack, *depth),
+        table::EXCHANGE => moving::exchange(stack, depth),
         table::DELETE => moving::delete(stack, depth),
         table::SUBTRACT => binary::subtract(stack, depth),
         table::DIVIDE => binary::divide(stack, depth),
         table::ADD => binary::add(stack, depth),
-        table::NEGATE => unary::negate(stack, *depth),
-        table::INT => unary::int(stack, *depth),
+        table::NEGATE => unary::negate(stack, depth),
+        table::INT => unary::int(stack, depth),
         table::DUPLICATE => moving::duplicate(stack, depth),
-        table::TRUNCATE => unary::truncate(stack, *depth),
-        table::RE_STACK => unary::re_stack(stack, *depth),
+        table::TRUNCATE => unary::truncate(stack, depth),
+        table::RE_STACK => unary::re_stack(stack, depth),
         _ => unknown(stack, *depth),
     }
 }

@@ -3,18 +3,19 @@ use literals::table;
 ghost use mathlib.Core.Path.{_≡_};
 ghost use Rattle.literals.specs.Operate.{outcome, operateOf};
 
-pub fn exchange(stack: &mut [u8], depth: usize) -> u8
-    ensures { λ r. ⌜ operateOf (now (stack .entry)) depth 1 ≡ (outcome r depth, now (stack .exit)) ⌝ }
+pub fn exchange(stack: &mut [u8], depth: &usize) -> u8
+    ensures { λ r. ⌜ operateOf (now (stack .entry)) (now (depth .entry)) 1 ≡ (outcome r (now (depth .entry)), now (stack .exit)) ⌝ }
 {
-    if slots::lacks(stack, depth, table::EXCHANGE_TAKES) {
-        return slots::refusal(stack, depth, table::EXCHANGE_TAKES);
+    let old = *depth;
+    if slots::lacks_at(stack, depth, table::EXCHANGE_TAKES) {
+        return slots::refusal(stack, old, table::EXCHANGE_TAKES);
     }
-    let lower1 = slots::b1_at(stack, depth, 1);
-    let lower = slots::word_at(stack, depth, 1);
-    let top1 = slots::b1_at(stack, depth, 0);
-    let top = slots::word_at(stack, depth, 0);
-    slots::put_at(stack, depth, 1, top1, top);
-    slots::put_at(stack, depth, 0, lower1, lower);
+    let lower1 = slots::b1_at(stack, old, 1);
+    let lower = slots::word_at(stack, old, 1);
+    let top1 = slots::b1_at(stack, old, 0);
+    let top = slots::word_at(stack, old, 0);
+    slots::put_at(stack, old, 1, top1, top);
+    slots::put_at(stack, old, 0, lower1, lower);
     0
 }
 

@@ -4,7 +4,7 @@ use mathlib.Core.Path.{_≡_, refl, sym, _∙_, ap, ap₂}
 use mathlib.Core.Logic.{inr}
 use mathlib.Core.Bool.{Bool, true, false, cond}
 use native.Mathlib.Omega.{arith}
-use borrow.Author.Tests.{eq-eqb, ne-eqb, ltb-true, ltb-false}
+use borrow.Author.Tests.{ltb-true, ltb-false}
 use lib.Dec.{ltb}
 use lib.IntN.{negℤ}
 use Rattle.number.specs.declared.Number.{Number}
@@ -60,25 +60,16 @@ none-below w e =
 low-none : (w : ℕ) → w < 256 → low (number 0 w) ≡ 0
 low-none w h = let a : w / 2 ^ 8 ≡ 0 = omega arith in let b : w / 2 ^ 16 ≡ 0 = omega arith in omega arith
 
+fit : (w : ℕ) → (low (number 0 w) < 2 ^ 16) × (complementOf (low (number 0 w)) < 2 ^ 16)
+fit w = (omega arith, omega arith)
+
 positive : (w : ℕ) → w < 2 ^ 24 → (w / 2 ^ 24 ≡ 0) × (w / 2 ^ 31 ≡ 0)
 positive w h = (omega arith, omega arith)
 
 negative : (w : ℕ) → 255 * 2 ^ 24 ≤ w → w < 2 ^ 32 → (w / 2 ^ 24 ≡ 255) × (w / 2 ^ 31 ≡ 1) × (256 ≤ w)
 negative w h l = (omega arith, omega arith, omega arith)
 
-other : (s : ℕ) → s ≡ 1 → s ≡ 0 → ⊥
-other s h z = omega arith
-
-low-fits : (w : ℕ) → low (number 0 w) < 2 ^ 16
-low-fits w = omega arith
-
-fits : (h : ℕ) → complementOf h < 2 ^ 16
-fits h = omega arith
-
-pos : (h : ℕ) → (h ≡ 0 → ⊥) → 0 < h
-pos h n = omega arith
-
-less-255 : (r h : ℕ) → 0 < h → h < 2 ^ 16 → r < 2 ^ 32 → (r + (0 + h * 256)) % 2 ^ 32 ≡ 255 → r % 2 ^ 24 ≡ 255 + complementOf h * 256
+less-255 : (r h : ℕ) → (0 + h * 256 ≡ 0 → ⊥) → h < 2 ^ 16 → r < 2 ^ 32 → (r + (0 + h * 256)) % 2 ^ 32 ≡ 255 → r % 2 ^ 24 ≡ 255 + complementOf h * 256
 less-255 r h p l g e =
     let c : complementOf h ≡ 2 ^ 16 - h = omega arith in
     let s : r ≡ 2 ^ 32 + 255 - h * 256 = omega arith in
@@ -104,20 +95,20 @@ negate-formed w t r o l m y n g e x = go (ltb w (2 ^ 24)) (ltb w (255 * 2 ^ 24))
     made : (s b v : ℕ) → 256 ≤ w → b < 256 → 1 - w / 2 ^ 31 ≡ s → shortMagnitude (number 0 w) ≡ v → shortOf s v ≡ number 0 (halves b (complementOf h) .word)
         → r % 2 ^ 24 ≡ b + complementOf h * 256 → negated (number 0 w) ≡ number 0 (swappedOf (r % 2 ^ 24))
     made s b v k i j o p q =
-        negate-short (number 0 w) refl k ∙ ap₂ shortOf j o ∙ p ∙ ap (number 0) (sym (ap swappedOf q ∙ swapped-halves b (complementOf h) i (fits h)))
+        negate-short (number 0 w) refl k ∙ ap₂ shortOf j o ∙ p ∙ ap (number 0) (sym (ap swappedOf q ∙ swapped-halves b (complementOf h) i (fit w .1)))
 
     go : (a b : Bool) → ltb w (2 ^ 24) ≡ a → ltb w (255 * 2 ^ 24) ≡ b → negated (number 0 w) ≡ number 0 (swappedOf (r % 2 ^ 24))
     go true b i j =
         let p = positive w (ltb-true _ _ i) in
         let q : t % 2 ^ 24 ≡ 0 + h * 256 = is ∙ ap (λ (k : ℕ). k + h * 256) (p .0) in
         let some : ¬ (w < 256) = λ k. n (q ∙ ap (λ (k : ℕ). 0 + k * 256) (low-none w k)) in
-        made 1 255 h (omega (arith, some)) (omega arith) (ap (λ (k : ℕ). 1 - k) (p .1)) (simp (eq-eqb (w / 2 ^ 31) 0 (p .1))) refl
-        (less-255 r h (pos h (λ z. n (q ∙ ap (λ (k : ℕ). 0 + k * 256) z))) (low-fits w) g (ap (λ (k : ℕ). (r + k) % 2 ^ 32) (sym q) ∙ e))
+        made 1 255 h (omega (arith, some)) (omega arith) (ap (λ (k : ℕ). 1 - k) (p .1)) (simp (p .1)) refl
+        (less-255 r h (λ z. n (q ∙ z)) (fit w .0) g (ap (λ (k : ℕ). (r + k) % 2 ^ 32) (sym q) ∙ e))
     go false true i j = absurd (let z : _≡_ {A = ℕ} 0 1 = cc (m, malformed-between (number 0 w) refl (ltb-false _ _ i) (ltb-true _ _ j)) in omega arith)
     go false false i j =
         let p = negative w (ltb-false _ _ j) l in
-        made 0 0 (complementOf h) (p .2) (omega arith) (ap (λ (k : ℕ). 1 - k) (p .1)) (simp (ne-eqb (w / 2 ^ 31) 0 (other _ (p .1)))) refl
-        (less-none r h (low-fits w) g (ap (λ (k : ℕ). (r + k) % 2 ^ 32) (sym (is ∙ ap (λ (k : ℕ). k + h * 256) (p .0))) ∙ e))
+        made 0 0 (complementOf h) (p .2) (omega arith) (ap (λ (k : ℕ). 1 - k) (p .1)) (simp (p .1)) refl
+        (less-none r h (fit w .0) g (ap (λ (k : ℕ). (r + k) % 2 ^ 32) (sym (is ∙ ap (λ (k : ℕ). k + h * 256) (p .0))) ∙ e))
 
 -- its exponent byte is no larger
 pub negated-exponent : (x : Number) → negated x .b1 ≤ x .b1

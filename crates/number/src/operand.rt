@@ -13,13 +13,13 @@ pub struct Operand {
     pub e: u32,
 }
 
-// Of a number whose b1 is 0, by its b2, the low byte of a word, and its low half. Of a well-formed one, b2 is 0 or 255, and a mask of its bits makes two's
-// complement without a branch on the sign.
-pub fn operand_of(b2: u32, half: u16) -> Operand
-    ensures { λ r. ⌜ ((w : ℕ) → w / 2 ^ 24 ≡ b2 % 256 → low (number 0 w) ≡ half → Unpacks (number 0 w) r) ⌝ }
+// Of a number whose b1 is 0, by its b2, as the low byte of a word, and its low half. Of a well-formed one, b2 is 0 or 255, and a mask of its bits makes two's complement without a
+// branch on the sign.
+pub fn operand_of(byte: u32, half: u16) -> Operand
+    ensures { λ r. ⌜ ((w : ℕ) → w / 2 ^ 24 ≡ byte % 256 → low (number 0 w) ≡ half → Unpacks (number 0 w) r) ⌝ }
 {
-    let byte = b2 % 256;
-    if std::num::wrapping_sub_u32(byte, 1) < 254 {
+    let b2 = byte % 256;
+    if std::num::wrapping_sub_u32(b2, 1) < 254 {
         return Operand {
             malformed: true,
             sign: 0,
@@ -27,7 +27,7 @@ pub fn operand_of(b2: u32, half: u16) -> Operand
             e: 0,
         };
     }
-    let mask = byte * 16843009;
+    let mask = b2 * 16843009;
     let v = std::num::wrapping_sub_u32(half as u32 ^ mask, mask) % 65536;
     if v == 0 {
         return Operand {

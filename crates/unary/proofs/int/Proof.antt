@@ -19,10 +19,10 @@ use Rattle.unary.proofs.int.Tie as tie
 abbrev f : Number → Answer
 f = intOf
 
-there : (c : tie.Else1) → lacking (c .before .before .before .before .args .stack .now) (c .before .before .before .before .args .depth) 1 ≡ false
-there c = sym (c .before .lacks .ensures) ∙ c .if1 .left
+there : (c : tie.Else1) → lacking (c .before .before .before .before .before .args .stack .now) (c .before .before .before .before .before .args .depth .now) 1 ≡ false
+there c = sym (c .before .lacks-at .ensures) ∙ c .if1 .left
 
-formed : (c : tie.Else2) → malformed (numberAt (c .before .before .before .before .before .before .before .args .stack .now) (c .before .before .before .before .before .before .before .args .depth) 0) ≡ false
+formed : (c : tie.Else2) → malformed (numberAt (c .before .before .before .before .before .before .before .before .args .stack .now) (c .before .before .before .before .before .before .before .before .args .depth .now) 0) ≡ false
 formed c = sym (c .before .malformed-at .ensures) ∙ c .if2 .left
 
 pub int-spec : {M : Type 1} → statement M
@@ -33,7 +33,7 @@ int-spec =
     (λ c κs. tt)
     (λ c κs. tt)
     (λ c. search needs)
-    (λ c. let t = c .before .before in one-lacking _ _ 39 f refl (sym (t .before .lacks .ensures) ∙ t .if1 .taken) _ (c .refusal .ensures))
+    (λ c. let t = c .before .before in one-lacking _ _ 39 f refl (sym (t .before .lacks-at .ensures) ∙ t .if1 .taken) _ (c .refusal .ensures))
     (λ c κs. tt)
     (λ c. search needs)
     (λ c. one-malformed _ _ 39 f refl (there (c .before .before .before)) (sym (c .before .malformed-at .ensures) ∙ c .if2 .taken))
@@ -50,7 +50,7 @@ int-spec =
     let w = c .before .before in
     let is = ap₂ number (w .before .before .b1-at .ensures) (w .word-at .ensures) in
     let m = formed (c .before .before .before .before .before .before) in
-    one-kept _ _ 39 f refl (there (c .before .before .before .before .before .before .before .before .before)) (λ k. omega (arith, c .before .before .before .before .before .before .before .before .before .before .before .before .slice-known .given k)) m
+    one-kept _ _ 39 f refl (there (c .before .before .before .before .before .before .before .before .before)) (λ k. omega (arith, c .before .before .before .before .before .before .before .before .before .before .before .before .before .slice-known .given k)) m
     (subst (λ (x : Number). intOf x ≡ Done x) is
     (int-kept _ (record { b1< = omega arith; word< = omega arith }) (form-stays _ (omega arith) (omega arith) (ap malformed is ∙ m) (omega arith)))))
     (λ c κs. tt)

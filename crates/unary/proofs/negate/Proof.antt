@@ -18,14 +18,14 @@ use Rattle.unary.proofs.negate.Tie as tie
 abbrev f : Number → Answer
 f = λ x. Done (negated x)
 
-there : (c : tie.Else1) → lacking (c .before .before .before .before .args .stack .now) (c .before .before .before .before .args .depth) 1 ≡ false
-there c = sym (c .before .lacks .ensures) ∙ c .if1 .left
+there : (c : tie.Else1) → lacking (c .before .before .before .before .before .args .stack .now) (c .before .before .before .before .before .args .depth .now) 1 ≡ false
+there c = sym (c .before .lacks-at .ensures) ∙ c .if1 .left
 
-formed : (c : tie.Else2) → malformed (numberAt (c .before .before .before .before .before .before .before .args .stack .now) (c .before .before .before .before .before .before .before .args .depth) 0) ≡ false
+formed : (c : tie.Else2) → malformed (numberAt (c .before .before .before .before .before .before .before .before .args .stack .now) (c .before .before .before .before .before .before .before .before .args .depth .now) 0) ≡ false
 formed c = sym (c .before .malformed-at .ensures) ∙ c .if2 .left
 
 -- what is not full, by the parts that are read
-short : (c : tie.Else3) → number 0 (c .before .word-at .result) ≡ numberAt (c .before .before .before .before .before .before .before .before .before .before .before .before .args .stack .now) (c .before .before .before .before .before .before .before .before .before .before .before .before .args .depth) 0
+short : (c : tie.Else3) → number 0 (c .before .word-at .result) ≡ numberAt (c .before .before .before .before .before .before .before .before .before .before .before .before .before .args .stack .now) (c .before .before .before .before .before .before .before .before .before .before .before .before .before .args .depth .now) 0
 short c = ap₂ number (sym (c .if3 .left) ∙ c .before .before .before .b1-at .ensures) (c .before .word-at .ensures)
 
 pub negate-spec : {M : Type 1} → statement M
@@ -36,7 +36,7 @@ negate-spec =
     (λ c κs. tt)
     (λ c κs. tt)
     (λ c. search needs)
-    (λ c. let t = c .before .before in one-lacking _ _ 27 f refl (sym (t .before .lacks .ensures) ∙ t .if1 .taken) _ (c .refusal .ensures))
+    (λ c. let t = c .before .before in one-lacking _ _ 27 f refl (sym (t .before .lacks-at .ensures) ∙ t .if1 .taken) _ (c .refusal .ensures))
     (λ c κs. tt)
     (λ c. search needs)
     (λ c. one-malformed _ _ 27 f refl (there (c .before .before .before)) (sym (c .before .malformed-at .ensures) ∙ c .if2 .taken))
@@ -52,7 +52,7 @@ negate-spec =
     (λ c. search needs)
     (λ c.
     let w = c .before .before .before in
-    one-kept _ _ 27 f refl (there (c .before .before .before .before .before .before .before .before .before .before)) (λ k. omega (arith, c .before .before .before .before .before .before .before .before .before .before .before .before .before .slice-known .given k)) (formed (c .before .before .before .before .before .before .before))
+    one-kept _ _ 27 f refl (there (c .before .before .before .before .before .before .before .before .before .before)) (λ k. omega (arith, c .before .before .before .before .before .before .before .before .before .before .before .before .before .before .slice-known .given k)) (formed (c .before .before .before .before .before .before .before))
     (ap Done (subst (λ (x : Number). negated x ≡ x) (short (c .before .before)) (negate-none _ _ (omega arith) (c .before .swapped .ensures) (c .if4 .taken)))))
     (λ c κs. tt)
     (λ c κs. tt)

@@ -22,14 +22,14 @@ use Rattle.unary.proofs.re_stack.Tie as tie
 abbrev f : Number → Answer
 f = λ x. Done (restacked x)
 
-there : (c : tie.Else1) → lacking (c .before .before .before .before .args .stack .now) (c .before .before .before .before .args .depth) 1 ≡ false
-there c = sym (c .before .lacks .ensures) ∙ c .if1 .left
+there : (c : tie.Else1) → lacking (c .before .before .before .before .before .args .stack .now) (c .before .before .before .before .before .args .depth .now) 1 ≡ false
+there c = sym (c .before .lacks-at .ensures) ∙ c .if1 .left
 
 -- a short number, by its parts
-unpacked : (c : tie.After-operand-of) → Unpacks (numberAt (c .before .before .before .before .before .before .before .before .before .before .before .before .args .stack .now) (c .before .before .before .before .before .before .before .before .before .before .before .before .args .depth) 0) (c .operand-of .result)
+unpacked : (c : tie.After-operand-of) → Unpacks (numberAt (c .before .before .before .before .before .before .before .before .before .before .before .before .before .args .stack .now) (c .before .before .before .before .before .before .before .before .before .before .before .before .before .args .depth .now) 0) (c .operand-of .result)
 unpacked c =
     let e = c .before .before .before .before .before in
-    unpacks-short _ _ (sym (e .before .b1-at .ensures) ∙ e .if2 .left) (c .operand-of .ensures _ (omega (arith, c .before .before .before .b2-at .ensures)) (sym (c .before .low-at .ensures)))
+    unpacks-short _ _ (sym (e .before .b1-at .ensures) ∙ e .if2 .left) (c .operand-of .ensures _ (sym (c .before .before .before .b2-at .ensures) ∙ sym (mod-eq-of-lt (omega arith))) (sym (c .before .low-at .ensures)))
 
 pub re-stack-spec : {M : Type 1} → statement M
 unfolding rowOf
@@ -39,12 +39,12 @@ re-stack-spec =
     (λ c κs. tt)
     (λ c κs. tt)
     (λ c. search needs)
-    (λ c. let t = c .before .before in one-lacking _ _ 61 f refl (sym (t .before .lacks .ensures) ∙ t .if1 .taken) _ (c .refusal .ensures))
+    (λ c. let t = c .before .before in one-lacking _ _ 61 f refl (sym (t .before .lacks-at .ensures) ∙ t .if1 .taken) _ (c .refusal .ensures))
     (λ c κs. tt)
     (λ c. search needs)
     (λ c.
     let full : ¬ (_≡_ {A = ℕ} _ 0) = λ z. c .if2 .taken (c .before .b1-at .ensures ∙ z) in
-    one-kept _ _ 61 f refl (there (c .before .before .before)) (λ k. omega (arith, c .before .before .before .before .before .before .slice-known .given k)) (malformed-full _ full) (ap Done (restack-full _ full)))
+    one-kept _ _ 61 f refl (there (c .before .before .before)) (λ k. omega (arith, c .before .before .before .before .before .before .before .slice-known .given k)) (malformed-full _ full) (ap Done (restack-full _ full)))
     (λ c κs. tt)
     (λ c. omega arith)
     (λ c κs. tt)

@@ -18,10 +18,10 @@ use Rattle.unary.proofs.truncate.Tie as tie
 abbrev f : Number → Answer
 f = λ x. Done (truncated x)
 
-there : (c : tie.Else1) → lacking (c .before .before .before .before .args .stack .now) (c .before .before .before .before .args .depth) 1 ≡ false
-there c = sym (c .before .lacks .ensures) ∙ c .if1 .left
+there : (c : tie.Else1) → lacking (c .before .before .before .before .before .args .stack .now) (c .before .before .before .before .before .args .depth .now) 1 ≡ false
+there c = sym (c .before .lacks-at .ensures) ∙ c .if1 .left
 
-formed : (c : tie.Else2) → malformed (numberAt (c .before .before .before .before .before .before .before .args .stack .now) (c .before .before .before .before .before .before .before .args .depth) 0) ≡ false
+formed : (c : tie.Else2) → malformed (numberAt (c .before .before .before .before .before .before .before .before .args .stack .now) (c .before .before .before .before .before .before .before .before .args .depth .now) 0) ≡ false
 formed c = sym (c .before .malformed-at .ensures) ∙ c .if2 .left
 
 pub truncate-spec : {M : Type 1} → statement M
@@ -32,17 +32,17 @@ truncate-spec =
     (λ c κs. tt)
     (λ c κs. tt)
     (λ c. search needs)
-    (λ c. let t = c .before .before in one-lacking _ _ 58 f refl (sym (t .before .lacks .ensures) ∙ t .if1 .taken) _ (c .refusal .ensures))
+    (λ c. let t = c .before .before in one-lacking _ _ 58 f refl (sym (t .before .lacks-at .ensures) ∙ t .if1 .taken) _ (c .refusal .ensures))
     (λ c κs. tt)
     (λ c. search needs)
     (λ c. one-malformed _ _ 58 f refl (there (c .before .before .before)) (sym (c .before .malformed-at .ensures) ∙ c .if2 .taken))
     (λ c κs. tt)
     (λ c. search needs)
-    (λ c. one-kept _ _ 58 f refl (there (c .before .before .before .before .before .before)) (λ k. omega (arith, c .before .before .before .before .before .before .before .before .before .slice-known .given k)) (formed (c .before .before .before)) (ap Done (truncate-not-full _ (sym (c .before .b1-at .ensures) ∙ c .if3 .taken))))
+    (λ c. one-kept _ _ 58 f refl (there (c .before .before .before .before .before .before)) (λ k. omega (arith, c .before .before .before .before .before .before .before .before .before .before .slice-known .given k)) (formed (c .before .before .before)) (ap Done (truncate-not-full _ (sym (c .before .b1-at .ensures) ∙ c .if3 .taken))))
     (λ c. search needs)
     (λ c.
     let q = c .before .before .b1-at .ensures in
-    one-kept _ _ 58 f refl (there (c .before .before .before .before .before .before .before)) (λ k. omega (arith, c .before .before .before .before .before .before .before .before .before .before .slice-known .given k)) (formed (c .before .before .before .before))
+    one-kept _ _ 58 f refl (there (c .before .before .before .before .before .before .before)) (λ k. omega (arith, c .before .before .before .before .before .before .before .before .before .before .before .slice-known .given k)) (formed (c .before .before .before .before))
     (ap Done (truncate-full _ (omega (arith, q)) ∙ truncate-whole _ (omega (arith, q)) (taken-not-145 _ (omega (arith, q))) (omega (arith, q)))))
     (λ c κs. tt)
     (λ c κs. tt)

@@ -3,6 +3,7 @@ use borrow.Author.Needs.{needs}
 use Prim.Native.Nat.{ℕ}
 use mathlib.Core.Path.{_≡_, sym, _∙_, ap, ap₂, subst}
 use mathlib.Core.Bool.{false}
+use native.Mathlib.Nat.{mod-eq-of-lt}
 use native.Mathlib.Omega.{arith}
 use Rattle.number.specs.declared.Number.{Number}
 use Rattle.number.specs.Number.{number}
@@ -27,7 +28,7 @@ whole c =
 short : (c : tie.After-operand-of) → Unpacks (numberAt (c .before .before .before .before .before .before .before .before .before .args .stack .now) (c .before .before .before .before .before .before .before .before .before .args .old) 0) (c .operand-of .result)
 short c =
     let e = c .before .before .before .before .before in
-    unpacks-short _ _ (sym (e .before .b1-at .ensures) ∙ e .if1 .left) (c .operand-of .ensures _ (omega (arith, c .before .before .before .b2-at .ensures)) (sym (c .before .low-at .ensures)))
+    unpacks-short _ _ (sym (e .before .b1-at .ensures) ∙ e .if1 .left) (c .operand-of .ensures _ (sym (c .before .before .before .b2-at .ensures) ∙ sym (mod-eq-of-lt (omega arith))) (sym (c .before .low-at .ensures)))
 
 returns-2 : tie.Need-returns-2
 returns-2 c =

@@ -1,6 +1,8 @@
 -- `operate_in_place` meets its contract: each arm does the literal of its row.
 use borrow.Author.Needs.{needs}
-use mathlib.Core.Path.{_∙_, ap}
+use mathlib.Core.Path.{refl, _∙_, ap}
+use Rattle.literals.specs.Literals.{rowOf, operationOf}
+use Rattle.literals.specs.Reports.{notInTable}
 use Rattle.literals.specs.Operate.{operateOf}
 use Rattle.literals.specs.OperateLaws.{in-no-row}
 use Rattle.calculator.proofs.operation.operate_in_place.Statement.{statement}
@@ -9,10 +11,11 @@ use Rattle.calculator.proofs.operation.operate_in_place.Tie as tie
 returns-12 : tie.Need-returns-12
 returns-12 c =
     let r = c .before .before .before .match .rest in
-    c .unknown .ensures _
+    c .unknown2 .ensures _
     (in-no-row _ (r .0 .0 .0 .0 .0 .0 .0 .0 .0 .1) (r .0 .0 .0 .0 .0 .0 .0 .0 .1) (r .0 .0 .0 .0 .0 .0 .0 .1) (r .0 .0 .0 .0 .0 .0 .1) (r .0 .0 .0 .0 .0 .1) (r .0 .0 .0 .0 .1) (r .0 .0 .0 .1) (r .0 .0 .1) (r .0 .1) (r .1))
 
 pub operate-in-place-spec : {M : Type 1} → statement M
+unfolding notInTable operationOf rowOf
 operate-in-place-spec =
     tie.close
     (tie.spec
@@ -29,7 +32,7 @@ operate-in-place-spec =
     (λ c κs. tt)
     (λ c κs. tt)
     (λ c. search needs)
-    (λ c. ap (operateOf _ _) (c .before .before .before .match .keys1) ∙ c .zero .ensures)
+    (λ c. ap (operateOf _ _) (c .before .before .before .match .keys1) ∙ c .unknown .ensures _ refl)
     (λ c. search needs)
     (λ c. ap (operateOf _ _) (c .before .before .before .before .before .match .keys2) ∙ c .before .before .exchange .ensures)
     (λ c. search needs)

@@ -14,16 +14,16 @@ use Rattle.number.proofs.operand.operand_of.Tie as tie
 
 returns : tie.Need-returns
 returns c w i j =
-    let b = c .before .before .args .b2 % 256 in
+    let b = c .before .before .args .byte % 256 in
     let k : (0 < b) × (b < 255) = omega (arith, c .before .wrapping-sub-u32 .ensures) in
     let m = malformed-between (number 0 w) refl (omega arith) (omega arith) in
     record { form = sym m; stands = λ f. absurd (let z : _≡_ {A = ℕ} 0 1 = cc (m, f) in omega arith); byte = omega arith; none = λ e. refl }
 
-made : (d : tie.After-wrapping-sub-u322) (w : ℕ) → w / 2 ^ 24 ≡ d .before .before .before .args .b2 % 256 → low (number 0 w) ≡ d .before .before .before .args .half
-    → Masked w (d .before .before .before .args .b2 % 256) (d .wrapping-sub-u322 .result)
+made : (d : tie.After-wrapping-sub-u322) (w : ℕ) → w / 2 ^ 24 ≡ d .before .before .before .args .byte % 256 → low (number 0 w) ≡ d .before .before .before .args .half
+    → Masked w (d .before .before .before .args .byte % 256) (d .wrapping-sub-u322 .result)
 made d w i j =
     let t = d .before .before in
-    let b = t .before .args .b2 % 256 in
+    let b = t .before .args .byte % 256 in
     masked w b _ (omega arith) (omega arith) i (λ p. omega (arith, t .wrapping-sub-u32 .ensures, d .before .if1 .left)) (d .wrapping-sub-u322 .ensures ∙ ap (λ (h : ℕ). bitXor h (b * 16843009)) (sym j))
 
 returns-2 : tie.Need-returns-2
