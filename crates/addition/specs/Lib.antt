@@ -3,3 +3,5 @@ pub mod SignedLaws
 pub mod AdditionLaws
 pub mod ShortRouteLaws
 pub mod TooBig
+pub mod MantissaLaws
+pub mod SignBytes

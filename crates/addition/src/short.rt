@@ -2,7 +2,8 @@
 ghost use mathlib.Core.Path.{_≡_};
 ghost use Prim.Native.Nat.{_≤_};
 ghost use Rattle.number.specs.Number.{number};
-ghost use Rattle.addition.specs.ShortRouteLaws.{carryOf, secondHalves, shortAnswer};
+ghost use Rattle.addition.specs.ShortRouteLaws.{carryOf};
+ghost use Rattle.addition.specs.SignBytes.{secondHalves, shortAnswer};
 
 pub enum Short {
     Malformed,

@@ -1,3 +1,4 @@
 pub mod Quotient
 pub mod Stored
 pub mod Sum
+pub mod Term

@@ -4,7 +4,8 @@ ghost use mathlib.Core.Logic.{_⊎_};
 ghost use Prim.Native.Nat.{_^_, _/_, _<_};
 ghost use Rattle.number.specs.Value.{signed as signedOf};
 ghost use Rattle.slots.specs.Reach.{numberAt};
-ghost use Rattle.binary.specs.Sum.{termOf, flips};
+ghost use Rattle.binary.specs.Sum.{flips};
+ghost use Rattle.binary.specs.Term.{termOf};
 
 // A zero has the exponent byte 1, which moves nothing: the compiler then knows that none is 0.
 pub(crate) struct Summand {

@@ -57,6 +57,7 @@ fn step(stack: &mut [u8], depth: &mut usize, literal: u8) -> u8
     ensures { λ r. ⌜ operateOf (now (stack .entry)) (now (depth .entry)) literal ≡ (outcome r (now (depth .exit)), now (stack .exit)) ⌝ }
 {
     match literal {
+        0 => unknown(stack, *depth),
         table::EXCHANGE => moving::exchange(stack, depth),
         table::DELETE => moving::delete(stack, depth),
         table::SUBTRACT => binary::subtract(stack, depth),

@@ -58,6 +58,7 @@ fn step(slots: &mut [Slot], depth: usize, literal: u8) -> (u8, usize) {
         };
     }
     match literal {
+        0 => (no_such_literal(depth), depth),
         1 => match slots.get_mut(depth.wrapping_sub(2)..depth) {
             Some([first, second]) => {
                 swap(first, second);
@@ -85,5 +86,17 @@ fn step(slots: &mut [Slot], depth: usize, literal: u8) -> (u8, usize) {
         58 => one!(truncate),
         61 => one!(re_stack),
         _ => (NO_SUCH_LITERAL, depth),
+    }
+}
+
+/// Literal 0, by a function that the compiler can't tell from another answer: with an entry of its
+/// own, the literal is the index of the jump table as it is.
+#[cold]
+#[inline(never)]
+fn no_such_literal(depth: usize) -> u8 {
+    if depth > usize::MAX / 5 {
+        LIMITS
+    } else {
+        NO_SUCH_LITERAL
     }
 }

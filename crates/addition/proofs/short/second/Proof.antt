@@ -3,7 +3,7 @@ use borrow.Author.Needs.{needs}
 use Prim.Native.Nat.{_-_}
 use mathlib.Core.Path.{sym, _∙_, ap}
 use borrow.Author.Tests.{eq-eqb, ne-eqb}
-use Rattle.addition.specs.ShortRouteLaws.{halvesOf}
+use Rattle.addition.specs.SignBytes.{halvesOf}
 use Rattle.addition.proofs.short.second.Statement.{statement}
 use Rattle.addition.proofs.short.second.Tie as tie
 

@@ -9,7 +9,8 @@ use Rattle.number.specs.Number.{number, malformed, low, halves}
 use Rattle.addition.specs.declared.short.Short.the-variants.{Stored}
 use Rattle.addition.specs.declared.short.Halves.{Halves}
 use Rattle.addition.specs.Addition.{shortSum, secondOf}
-use Rattle.addition.specs.ShortRouteLaws.{carryOf, wrapped, secondHalves, Split, second-split, shortAnswer, told, answer-malformed, answer-told, unformed, formed, told-stored, told-beyond}
+use Rattle.addition.specs.ShortRouteLaws.{carryOf, wrapped}
+use Rattle.addition.specs.SignBytes.{secondHalves, Split, second-split, shortAnswer, told, answer-malformed, answer-told, unformed, formed, told-stored, told-beyond}
 use Rattle.addition.proofs.short.short_sum.Statement.{statement}
 use Rattle.addition.proofs.short.short_sum.Tie as tie
 

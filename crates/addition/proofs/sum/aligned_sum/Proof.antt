@@ -10,7 +10,8 @@ use mir.Val.{SFits, ofZ, toZ}
 use mir.Facts.{toZ-ofZ}
 use Rattle.addition.specs.Addition.{aligned, endedSum}
 use Rattle.addition.specs.SignedLaws.{low-bits-lt, held}
-use Rattle.addition.specs.AdditionLaws.{first-larger, second-larger}
+use Rattle.addition.specs.AdditionLaws.{first-larger}
+use Rattle.addition.specs.MantissaLaws.{second-larger}
 use Rattle.addition.proofs.sum.aligned_sum.Statement.{statement}
 use Rattle.addition.proofs.sum.aligned_sum.Tie as tie
 

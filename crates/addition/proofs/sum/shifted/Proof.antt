@@ -10,7 +10,8 @@ use mir.Val.{SFits, ofZ, toZ}
 use mir.Facts.{toZ-ofZ}
 use Rattle.addition.specs.Addition.{aligned}
 use Rattle.addition.specs.SignedLaws.{natAbs-twice, natAbs-moved, natAbs-sum, holds, held}
-use Rattle.addition.specs.AdditionLaws.{moved-away, twice-moved, aligned-lt}
+use Rattle.addition.specs.AdditionLaws.{moved-away}
+use Rattle.addition.specs.MantissaLaws.{twice-moved, aligned-lt}
 use Rattle.addition.proofs.sum.shifted.Statement.{statement}
 use Rattle.addition.proofs.sum.shifted.Tie as tie
 

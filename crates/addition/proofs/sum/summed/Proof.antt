@@ -8,7 +8,7 @@ use mir.Val.{ofZ, toZ}
 use mir.Facts.{toZ-ofZ}
 use Rattle.addition.specs.Addition.{aligned, endedSum}
 use Rattle.addition.specs.SignedLaws.{natAbs-sum, holds, held}
-use Rattle.addition.specs.AdditionLaws.{aligned-lt}
+use Rattle.addition.specs.MantissaLaws.{aligned-lt}
 use Rattle.addition.proofs.sum.summed.Statement.{statement}
 use Rattle.addition.proofs.sum.summed.Tie as tie
 

@@ -12,7 +12,8 @@ use Rattle.literals.specs.Operate.{outcome, operateOf}
 use Rattle.literals.specs.WayLaws.{two-malformed}
 use Rattle.binary.specs.declared.term.Summand.{Summand}
 use Rattle.binary.specs.Stored.{storedOf, two-stored}
-use Rattle.binary.specs.Sum.{flips, literalOf, totalOf, sum-line, term-form, term-formed, terms-summed}
+use Rattle.binary.specs.Sum.{flips, literalOf, totalOf, sum-line}
+use Rattle.binary.specs.Term.{term-form, term-formed, terms-summed}
 use Rattle.binary.proofs.sum.full_route.Statement.{statement}
 use Rattle.binary.proofs.sum.full_route.Tie as tie
 

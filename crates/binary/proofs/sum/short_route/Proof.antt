@@ -4,7 +4,7 @@ use mathlib.Core.Path.{_≡_, sym, _∙_, ap, ap₂}
 use mathlib.Core.Bool.{Bool}
 use Rattle.number.specs.declared.Number.{Number}
 use Rattle.number.specs.Number.{number}
-use Rattle.addition.specs.ShortRouteLaws.{shortAnswer}
+use Rattle.addition.specs.SignBytes.{shortAnswer}
 use Rattle.binary.specs.Sum.{route-first, route-second, route-short}
 use Rattle.binary.proofs.sum.short_route.Statement.{statement}
 use Rattle.binary.proofs.sum.short_route.Tie as tie

@@ -18,7 +18,8 @@ use Rattle.number.specs.RestackLaws.{restack-full}
 use Rattle.addition.specs.SignedLaws.{natAbs-signed, held}
 use Rattle.slots.specs.Reach.{numberAt}
 use Rattle.binary.specs.declared.term.Summand.{Summand}
-use Rattle.binary.specs.Sum.{flips, term, termOf, term-malformed, term-none, term-some}
+use Rattle.binary.specs.Sum.{flips}
+use Rattle.binary.specs.Term.{term, termOf, term-malformed, term-none, term-some}
 use Rattle.binary.proofs.term.term.Statement.{statement}
 use Rattle.binary.proofs.term.term.Tie as tie
 

@@ -1,0 +1,126 @@
+-- The short route by its sign bytes, which settle the seventeenth bit as in the listing: what it answers, and that the code's bytes come to it.
+use Prim.Native.Nat.{ℕ, _+_, _*_, _-_, _^_, _/_, _%_, _≤_, _<_}
+use mathlib.Core.Path.{_≡_, refl, sym, _∙_, ap, ap₂, subst, subst₂}
+use mathlib.Core.Logic.{_⊎_, inl, inr}
+use mathlib.Core.Bool.{Bool, true, false, cond, _||_}
+use borrow.Author.Tests.{le-leb, eqb-true, eqb-false}
+use native.Mathlib.Nat.{eq-zero-or-pos}
+use native.Mathlib.Omega.{arith}
+use lib.Dec.{ltb, eqb}
+use lib.IntN.{ℤ}
+use Rattle.number.specs.declared.Number.{Number}
+use Rattle.number.specs.Number.{number, malformed, sign, low, complementOf, shortMagnitude, halves, shortOf}
+use Rattle.number.specs.NumberLaws.{places, low-halves, magnitude-cases}
+use Rattle.number.specs.FormLaws.{malformed-short, malformed-between, malformed-negative}
+use Rattle.number.specs.Negate.{negated}
+use Rattle.number.specs.NegateLaws.{negate-zero, negate-short}
+use Rattle.addition.specs.declared.short.Short.{Short}
+use Rattle.addition.specs.declared.short.Short.the-variants.{Malformed, Stored, Beyond}
+use Rattle.addition.specs.declared.short.Halves.{Halves}
+use Rattle.addition.specs.Addition.{storedShort, shortSum, shortOfWhole, secondOf}
+use Rattle.addition.specs.ShortRouteLaws.{carryOf, wrapped, again, sum-0, sum-1, sum-2}
+
+-- what the short route answers of a sum
+abbrev pub told : ℤ → Short
+told z = cond (storedShort z) (Stored (shortOfWhole z .word)) Beyond
+
+unfoldable pub shortAnswer : Bool → Number → Number → Short
+shortAnswer less x y = cond (malformed x || malformed y) Malformed (told (shortSum x (secondOf less y)))
+
+module _ (less : Bool) (x y : Number) where
+  pub answer-malformed : malformed x || malformed y ≡ true → shortAnswer less x y ≡ Malformed
+  unfolding shortAnswer
+  answer-malformed h = simp h
+
+  pub answer-told : malformed x || malformed y ≡ false → shortAnswer less x y ≡ told (shortSum x (secondOf less y))
+  unfolding shortAnswer
+  answer-told h = simp h
+
+-- a word by its first byte b, of which k is one less, wrapped
+pub unformed : (w k : ℕ) → w < 2 ^ 32 → (k + 1) % 256 ≡ w / 2 ^ 24 → k < 254 → malformed (number 0 w) ≡ true
+unformed w k l e g = malformed-between (number 0 w) refl (omega arith) (omega arith)
+
+pub formed : (w k : ℕ) → w < 2 ^ 32 → k < 256 → (k + 1) % 256 ≡ w / 2 ^ 24 → 254 ≤ k → (malformed (number 0 w) ≡ false) × (w / 2 ^ 24 ≡ 255 * (w / 2 ^ 31))
+formed w k l m e g = go (eq-zero-or-pos (w / 2 ^ 24))
+  where
+    go : (w / 2 ^ 24 ≡ 0) ⊎ (0 < w / 2 ^ 24) → (malformed (number 0 w) ≡ false) × (w / 2 ^ 24 ≡ 255 * (w / 2 ^ 31))
+    go (inl p) = (malformed-short (number 0 w) refl (omega arith), omega arith)
+    go (inr p) = let last : w / 2 ^ 24 ≡ 255 = omega arith in (malformed-negative (number 0 w) refl (omega arith) l, omega arith)
+
+abbrev pub halvesOf : ℕ → ℕ → Halves
+halvesOf b h = record { byte = b; low = h }
+
+-- the second number's sign byte and low half as they are added
+abbrev pub secondHalves : Bool → ℕ → ℕ → Halves
+secondHalves less b h = cond less (cond (eqb h 0) (halvesOf 0 h) (halvesOf (255 - b) (complementOf h))) (halvesOf b h)
+
+pub record Split (n : Number) (h : Halves) : Type 0 where
+  pub first : n .b1 ≡ 0
+  pub bytes : h .byte ≡ 255 * sign n
+  pub sign< : sign n < 2
+  pub lows : low n ≡ h .low
+
+split-halves : (s h : ℕ) → s < 2 → h < 2 ^ 16 → Split (halves (255 * s) h) (halvesOf (255 * s) h)
+split-halves s h l g =
+    let is : sign (halves (255 * s) h) ≡ s = omega arith in
+    record { first = refl; bytes = ap (λ (i : ℕ). 255 * i) (sym is); sign< = omega arith; lows = low-halves (255 * s) h g }
+
+-- of a number that is not malformed
+pub second-split : (less : Bool) (w : ℕ) → w < 2 ^ 32 → w / 2 ^ 24 ≡ 255 * (w / 2 ^ 31)
+    → Split (secondOf less (number 0 w)) (secondHalves less (w / 2 ^ 24) (low (number 0 w)))
+second-split false w l e = record { first = refl; bytes = e; sign< = omega arith; lows = refl }
+second-split true w l e = go (eqb (low y) 0) refl (magnitude-cases y (record { b1< = omega arith; word< = l }))
+  where
+    y : Number
+    y = number 0 w
+
+    -- by what it is negated to
+    split : (b s h k : ℕ) → b ≡ 255 * s → k ≡ h → s < 2 → h < 2 ^ 16 → negated y ≡ halves (255 * s) h → Split (negated y) (halvesOf b k)
+    split b s h k f g l m e =
+        subst (λ (n : Number). Split n (halvesOf b k)) (sym e) (subst₂ (λ (i j : ℕ). Split (halves (255 * s) h) (halvesOf i j)) (sym f) (sym g) (split-halves s h l m))
+
+    go : (z : Bool) → eqb (low y) 0 ≡ z → ((sign y ≡ 0) × (shortMagnitude y ≡ low y)) ⊎ ((sign y ≡ 1) × (shortMagnitude y ≡ complementOf (low y)))
+        → Split (negated y) (cond z (halvesOf 0 (low y)) (halvesOf (255 - w / 2 ^ 24) (complementOf (low y))))
+    go true f (inl p) =
+        let none = eqb-true (low y) 0 f in
+        let same = negate-zero y refl (omega (arith, places w)) in
+        subst (λ (n : Number). Split n (halvesOf 0 (low y))) (sym same) (record { first = refl; bytes = ap (λ (i : ℕ). 255 * i) (sym (p .0)); sign< = omega arith; lows = refl })
+    go true f (inr p) =
+        let none = eqb-true (low y) 0 f in
+        split 0 0 0 (low y) refl none (omega arith) (omega arith) (negate-short y refl (omega arith) ∙ ap₂ shortOf {x = 1 - sign y} {y = 0} (omega (arith, p .0)) (p .1 ∙ ap complementOf none))
+    go false f (inl p) =
+        let some = eqb-false (low y) 0 f in
+        split _ 1 (complementOf (low y)) _ (omega arith) refl (omega arith) (omega arith)
+        (negate-short y refl (omega (arith, places w)) ∙ ap₂ shortOf {x = 1 - sign y} {y = 1} (omega (arith, p .0)) (p .1))
+    go false f (inr p) =
+        split _ 0 (complementOf (low y)) _ (omega arith) refl (omega arith) (omega arith)
+        (negate-short y refl (omega arith) ∙ ap₂ shortOf {x = 1 - sign y} {y = 0} (omega (arith, p .0)) (p .1))
+
+-- the sign bytes and the carry, settled
+module _ (x y : Number) (b c k : ℕ) (p : b ≡ 255 * sign x) (q : c ≡ 255 * sign y) (l : sign x < 2) (m : sign y < 2)
+    (h : k ≡ ((b + c) % 256 + carryOf (wrapped x y) (low x)) % 256) where
+  ways : carryOf (wrapped x y) (low x) < 2
+  ways = go (ltb (wrapped x y) (low x))
+    where
+      go : (t : Bool) → cond t 1 0 < 2
+      go true = omega arith
+      go false = omega arith
+
+  pub told-stored : (k + 1) % 256 < 2 → told (shortSum x y) ≡ Stored (halves k (wrapped x y) .word)
+  told-stored g = go (eqb k 0) refl
+    where
+      w : ℕ
+      w = wrapped x y
+
+      go : (t : Bool) → eqb k 0 ≡ t → told (shortSum x y) ≡ Stored (halves k w .word)
+      go true e =
+          let none = eqb-true k 0 e in
+          ap told (sum-0 x y (omega (arith, ways)))
+          ∙ simp (le-leb w 65535 (omega arith)) (ap (λ (i : ℕ). Stored (halves i w .word)) (sym none))
+      go false e =
+          let all : k ≡ 255 = omega (arith, eqb-false k 0 e) in
+          ap told (sum-1 x y (omega (arith, ways)))
+          ∙ simp (le-leb (65535 - w) 65535 (omega arith)) (ap₂ (λ (i j : ℕ). Stored (halves i j .word)) (sym all) (again w (omega arith)))
+
+  pub told-beyond : 2 ≤ (k + 1) % 256 → told (shortSum x y) ≡ Beyond
+  told-beyond g = simp (sum-2 x y (λ e. omega (arith, ways)) (λ e. omega (arith, ways)))
