@@ -1,5 +1,4 @@
-// Five-byte numbers of the Spectrum's calculator: their forms, re-stacking and negation.
-// Every function takes any five bytes.
+// Five-byte numbers of the Spectrum's calculator: their forms, and the parts that the arithmetic takes of them. Every function takes any parts.
 mod form;
 mod operand;
 mod parts;
