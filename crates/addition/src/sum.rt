@@ -8,7 +8,8 @@ ghost use lib.Signed.{remZ};
 ghost use Rattle.number.specs.Value.{signed};
 ghost use Rattle.addition.specs.Addition.{negative, aligned, endedSum, signedSum};
 
-// A mantissa moved down by some places, halves towards plus infinity: what stands above a half is rounded by it, and no place is a case of its own.
+// A mantissa moved down by some places, halves towards plus infinity. Twice it is moved, and half of one more than that is the floor: no place is a case of
+// its own.
 fn shifted(x: i64, places: u32) -> i64
     requires { ⌜ natAbs x < 2 ^ 32 ⌝ }
     ensures { λ r. ⌜ r ≡ aligned places x ⌝ }
