@@ -44,13 +44,18 @@ pub fn print(rows: &[Row]) -> bool {
     !rows.iter().any(Row::is_over)
 }
 
-/// No ratio to what is too little to be seen.
+/// What is below 1 is told so, and has no ratio: no instruction count is, and of a time that is
+/// an empty call's noise.
 fn columns(cost: Cost) -> String {
-    let ratio = match cost.plain {
-        0.05.. => format!("{:.2}", cost.ratio()),
+    let told = |cost: f64| match cost {
+        1.0.. => format!("{cost:.1}"),
+        _ => "< 1".to_string(),
+    };
+    let ratio = match cost.ours.min(cost.plain) {
+        1.0.. => format!("{:.2}", cost.ratio()),
         _ => "-".to_string(),
     };
-    format!("{:>5.1} | {:>5.1} | {ratio:>4}", cost.ours, cost.plain)
+    format!("{:>5} | {:>5} | {ratio:>4}", told(cost.ours), told(cost.plain))
 }
 
 fn names<'a>(rows: impl Iterator<Item = &'a Row>) -> String {
