@@ -4,7 +4,7 @@ use mathlib.Core.Path.{_≡_, refl, sym, _∙_, ap, ap₂}
 use mathlib.Core.Logic.{_⊎_, inl, inr}
 use mathlib.Core.Bool.{Bool, true, false, cond}
 use borrow.Author.Tests.{le-leb, lt-ltb, le-ltb, lt-leb, eq-eqb, ne-eqb, eqb-true, eqb-false, ltb-true}
-use native.Mathlib.Nat.{eq-zero-or-pos, max-eq-left, two-pow-succ, div-lt-iff-lt-mul, div-div-eq-div-mul}
+use native.Mathlib.Nat.{eq-zero-or-pos, max-eq-left, two-pow-succ, div-lt-iff-lt-mul, div-eq-of-lt, div-div-eq-div-mul}
 use native.Mathlib.Omega.{arith}
 use lib.Dec.{ltb, eqb}
 use lib.IntN.{ℤ, pos, natAbs, _+ℤ_}
@@ -42,6 +42,14 @@ moved-some s m k h g =
 
 pub shifted-lt : (s m k : ℕ) → m < 2 ^ 32 → (2 * m + 2 ^ k - s) / 2 ^ (k + 1) < 2 ^ 32
 shifted-lt s m k h = let p = pow-pos k in div-lt-iff-lt-mul (pow-pos (k + 1)) .1 (omega (arith, pow-add 2 k 1))
+
+-- nothing moved is nothing
+pub none-shifted : (k : ℕ) → shiftedBy 0 0 k ≡ 0
+none-shifted k = go (ltb 32 k)
+  where
+    go : (b : Bool) → cond b 0 ((2 * 0 + 2 ^ k - 0) / 2 ^ (k + 1)) ≡ 0
+    go true = refl
+    go false = div-eq-of-lt (omega (arith, pow-pos k, pow-add 2 k 1))
 
 pub aligned-signed : (s m k : ℕ) → s < 2 → aligned k (signed s m) ≡ signed s (shiftedBy s m k)
 unfolding aligned

@@ -3,7 +3,7 @@ use Prim.Native.Nat.{ℕ, suc, _+_, _*_, _-_, _^_, _/_, _≤_, _<_, max}
 use mathlib.Core.Path.{_≡_, refl, sym, _∙_, ap, ap₂, subst}
 use mathlib.Core.Logic.{_⊎_, inl, inr}
 use mathlib.Core.Bool.{Bool, true, false, cond}
-use native.Mathlib.Nat.{eq-zero-or-pos, max-comm, div-div-eq-div-mul, add-div-right, zero-div}
+use native.Mathlib.Nat.{eq-zero-or-pos, max-comm, div-div-eq-div-mul, add-div-right}
 use native.Mathlib.Omega.{arith}
 use lib.Dec.{ltb}
 use lib.IntN.{ℤ, pos, negsuc, negℤ, natAbs, _+ℤ_, _*ℤ_, +ℤ-comm}
@@ -14,7 +14,7 @@ use Rattle.ending.specs.Ending.{ended}
 use Rattle.ending.specs.EndingLaws.{ended-zero}
 use Rattle.addition.specs.Addition.{negative, aligned, endedSum, signedSum}
 use Rattle.addition.specs.SignedLaws.{natAbs-signed, signed-parts, negative-lt, floor-signed}
-use Rattle.addition.specs.AdditionLaws.{shiftedBy, shifted-lt, aligned-signed, moved-within, first-larger, sum-ended}
+use Rattle.addition.specs.AdditionLaws.{shiftedBy, shifted-lt, none-shifted, aligned-signed, moved-within, first-larger, sum-ended}
 
 -- t and 2^k more, over twice 2^k, is half of one more than t over 2^k
 one-more : (t k : ℕ) → (t + 2 ^ k) / 2 ^ (k + 1) ≡ (t / 2 ^ k + 1) / 2
@@ -57,14 +57,7 @@ second-larger x y e f h =
 
 -- A zero moves nothing, and may as well have the exponent byte 1.
 none-moved : (k : ℕ) → aligned k (pos 0) ≡ pos 0
-none-moved k = aligned-signed 0 0 k (omega arith) ∙ go (ltb 32 k)
-  where
-    bare : 2 * 0 + 2 ^ k - 0 ≡ 0 + 2 ^ k
-    bare = omega arith
-
-    go : (b : Bool) → pos (cond b 0 ((2 * 0 + 2 ^ k - 0) / 2 ^ (k + 1))) ≡ pos 0
-    go true = refl
-    go false = ap pos (ap (λ (i : ℕ). i / 2 ^ (k + 1)) bare ∙ one-more 0 k ∙ ap (λ (i : ℕ). (i + 1) / 2) (zero-div (2 ^ k)))
+none-moved k = aligned-signed 0 0 k (omega arith) ∙ ap pos (none-shifted k)
 
 none-first : (y : ℤ) (e f : ℕ) → e ≤ f → signedSum (pos 0) e y f ≡ endedSum (y +ℤ pos 0) f
 none-first y e f h = second-larger (pos 0) y e f h ∙ ap (λ (z : ℤ). endedSum (y +ℤ z) f) (none-moved (f - e))

@@ -1,6 +1,5 @@
 // The short route of `addition`, for two numbers whose b1 is 0, each by its word.
 ghost use mathlib.Core.Path.{_≡_};
-ghost use Prim.Native.Nat.{_≤_};
 ghost use Rattle.number.specs.Number.{number};
 ghost use Rattle.addition.specs.ShortRouteLaws.{carryOf};
 ghost use Rattle.addition.specs.SignBytes.{secondHalves, shortAnswer};
@@ -36,7 +35,7 @@ fn second(less: bool, byte: u8, low: u16) -> Halves
 
 // The carry of a sum of sixteen-bit numbers, found from the wrapped sum.
 fn carry_of(sum: u16, first: u16) -> u8
-    ensures { λ r. ⌜ (r ≡ carryOf sum first) × (r ≤ 1) ⌝ }
+    ensures { λ r. ⌜ r ≡ carryOf sum first ⌝ }
 {
     if sum < first {
         return 1;

@@ -2,13 +2,11 @@
 use Prim.Native.Nat.{ℕ, _+_, _*_, _-_, _^_, _/_, _%_, _≤_, _<_}
 use mathlib.Core.Path.{_≡_, refl, _∙_, ap, ap₂}
 use mathlib.Core.Logic.{_⊎_, inl, inr}
-use mathlib.Core.Bool.{Bool, true, false, cond}
+use mathlib.Core.Bool.{true, false}
 use borrow.Author.Tests.{ne-eqb, eq-eqb}
-use native.Mathlib.Nat.{div-eq-of-lt, le-trans, le-of-eq}
+use native.Mathlib.Nat.{le-trans, le-of-eq}
 use native.Mathlib.Omega.{arith}
-use lib.Dec.{ltb}
 use lib.IntN.{ℤ, pos, negℤ, _+ℤ_, +ℤ-comm}
-use lib.Pow.{pow-add, pow-pos}
 use Rattle.number.specs.declared.Number.{Number}
 use Rattle.number.specs.Number.{formOf, zeros, bytes, sign, mantissa, fullOf, low, complementOf, halves, shortOf, shortMagnitude, passesZeroTest}
 use Rattle.number.specs.NumberLaws.{Bytes, mantissa-full, sign-full, low-halves, zero-passes, full-fails}
@@ -22,7 +20,7 @@ use Rattle.ending.specs.Ending.{loose, normal, rounded, ended}
 use Rattle.ending.specs.EndingLaws.{normal-exponent, closed-stored, ended-zero, ended-other, ended-set}
 use Rattle.addition.specs.Addition.{endedSum, alignedSum, fullRoute, shortRoute, sumOf, differenceOf}
 use Rattle.addition.specs.SignedLaws.{below}
-use Rattle.addition.specs.AdditionLaws.{magnitudeOf, shiftedBy, unshifted, aligned-first, sum-ended}
+use Rattle.addition.specs.AdditionLaws.{magnitudeOf, shiftedBy, unshifted, none-shifted, aligned-first, sum-ended}
 use Rattle.addition.specs.ShortRouteLaws.{first-full}
 use Rattle.truncation.specs.Truncate.{taken65536, cleared, truncated}
 use Rattle.truncation.specs.TruncateLaws.{truncate-full, truncate-below-one, truncate-to-short, truncate-taken, truncate-cleared, truncate-whole, taken-145, taken-not-145}
@@ -40,14 +38,6 @@ pub full-less : (x t z : Number) → (x .b1 ≡ 0 → ⊥) → opposite t ≡ z 
 unfolding differenceOf fullRoute
 full-less x t z some o h g k =
     first-full x (negated t) some ∙ ap₂ alignedSum (restack-full x some) o ∙ aligned-first x z h g k ∙ simp (ne-eqb (x .b1) 0 some)
-
--- nothing moved is nothing
-none-moved : (k : ℕ) → shiftedBy 0 0 k ≡ 0
-none-moved k = go (ltb 32 k)
-  where
-    go : (b : Bool) → cond b 0 ((2 * 0 + 2 ^ k - 0) / 2 ^ (k + 1)) ≡ 0
-    go true = refl
-    go false = div-eq-of-lt (omega (arith, pow-pos k, pow-add 2 k 1))
 
 negative : (c : ℕ) → c < 2 ^ 16 → (sign (halves 255 c) ≡ 1) × (256 ≤ halves 255 c .word)
 negative c p = omega arith
@@ -84,7 +74,7 @@ module _ (x : Number) (b : Bytes x) (s : sign x ≡ 1) (f : 0 < x .b1) where
   -- the whole part counts as zero on the full route: x itself is left
   none-taken : (t : Number) → truncated x ≡ t → opposite t ≡ zeros → intOf x ≡ differenceOf t shortOne
   none-taken t e o =
-      left-some t (mantissa x - 0) e (left t zeros 0 o (omega arith) refl (none-moved (x .b1 - 0)) (omega arith)) (omega arith) (inl (omega arith))
+      left-some t (mantissa x - 0) e (left t zeros 0 o (omega arith) refl (none-shifted (x .b1 - 0)) (omega arith)) (omega arith) (inl (omega arith))
 
   pub int-small : x .b1 < 129 → intOf x ≡ Done (halves 255 65535)
   unfolding negated restacked formOf passesZeroTest

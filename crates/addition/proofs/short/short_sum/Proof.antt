@@ -49,7 +49,7 @@ settled c =
     let w = c .before .before .before in
     c .wrapping-add-u82 .ensures
     ∙ ap₂ (λ (i j : ℕ). (i + j) % 256) (c .before .before .wrapping-add-u8 .ensures)
-    (c .before .carry-of .ensures .0 ∙ ap₂ carryOf (summed w) (w .before .before .before .low-half .ensures))
+    (c .before .carry-of .ensures ∙ ap₂ carryOf (summed w) (w .before .before .before .low-half .ensures))
 
 -- neither is malformed
 told-of : (c : tie.After-second) → (let a = c .before .before .before .before .before .before .before .args in
