@@ -16,7 +16,7 @@ use work::{Area, Work};
 pub const SIDES: [(&str, &Calls); 3] = [("ours", &OURS), ("plain", &PLAIN), ("empty", &EMPTY)];
 
 /// How often each side's pass is timed.
-const TIMES: usize = 1_000;
+const TIMES: usize = 100;
 
 /// What was measured of a piece of work: instructions or nanoseconds an operation.
 #[derive(Clone, Copy)]

@@ -6,8 +6,9 @@ use crate::reference;
 use crate::rng::Rng;
 use crate::Bytes;
 
-/// How many stacks a row has.
-const STACKS: usize = 4_096;
+/// How many stacks a row has: so many that no processor learns from pass to pass which way each
+/// one's branches go, as one does with a few thousand.
+const STACKS: usize = 65_536;
 
 /// What the operands are made of.
 #[derive(Clone, Copy)]
