@@ -55,7 +55,11 @@ fn columns(cost: Cost) -> String {
         1.0.. => format!("{:.2}", cost.ratio()),
         _ => "-".to_string(),
     };
-    format!("{:>5} | {:>5} | {ratio:>4}", told(cost.ours), told(cost.plain))
+    format!(
+        "{:>5} | {:>5} | {ratio:>4}",
+        told(cost.ours),
+        told(cost.plain)
+    )
 }
 
 fn names<'a>(rows: impl Iterator<Item = &'a Row>) -> String {
