@@ -61,6 +61,7 @@ fn step(stack: &mut [u8], depth: &mut usize, literal: u8) -> u8
         table::EXCHANGE => moving::exchange(stack, depth),
         table::DELETE => moving::delete(stack, depth),
         table::SUBTRACT => binary::subtract(stack, depth),
+        table::MULTIPLY => binary::multiply(stack, depth),
         table::DIVIDE => binary::divide(stack, depth),
         table::ADD => binary::add(stack, depth),
         table::NEGATE => unary::negate(stack, depth),

@@ -6,10 +6,10 @@ use Prim.Native.Nat.{ℕ, zero, suc, _+_, _*_, _-_, _^_, _%_, _≤_, _<_}
 use native.Mathlib.Nat.{eq-zero-or-pos}
 use native.Mathlib.Numerals.{sub-one}
 use native.Mathlib.Omega.{arith}
-use borrow.Author.Tests.{lt-ltb, le-ltb, eq-eqb, ne-eqb, ltb-true}
+use borrow.Author.Tests.{lt-ltb, le-ltb, eq-eqb, ne-eqb, ltb-true, ltb-false}
 use lib.Dec.{ltb, eqb}
 use Rattle.number.specs.declared.Number.{Number}
-use Rattle.number.specs.Number.{zeros, fullOf}
+use Rattle.number.specs.Number.{number, zeros, fullOf}
 use Rattle.ending.specs.Ending.{Loose, loose, doubled, normal, rounded, closed, ended}
 use Rattle.ending.specs.declared.answer.Answer.{Answer}
 use Rattle.ending.specs.declared.answer.Answer.the-variants.{Done, TooBig}
@@ -80,7 +80,6 @@ module _ (s : ℕ) (l : Loose) where
       let k : 256 ≤ l .e = omega arith in let f : l .e ≡ 256 → ⊥ = omega arith in
       simp (le-ltb _ _ g, le-ltb _ _ k, ne-eqb _ _ f)
 
-  -- no other way out is report 6
   -- the digit that rounds may have been added before
   pub closed-rounded : closed s (loose (rounded l) (l .e) 0) ≡ closed s l
   unfolding closed
@@ -88,6 +87,7 @@ module _ (s : ℕ) (l : Loose) where
       let same : rounded l + 0 % 2 ≡ rounded l = omega arith in
       ap (λ (m : ℕ). cond (ltb (255 + 256) (l .e)) TooBig (cond (ltb (l .e) 256) (Done zeros) (cond (eqb (l .e) 256) (Done (fullOf s 1 (2 ^ 31))) (Done (fullOf s (l .e - 256) m))))) same
 
+  -- no other way out is report 6
   pub closed-too-big-only : closed s l ≡ TooBig → 511 < l .e
   unfolding closed
   closed-too-big-only h = ltb-true _ _ (first _ _ (done (ltb (l .e) 256) (eqb (l .e) 256) _ _ _) h)
@@ -100,6 +100,21 @@ module _ (s : ℕ) (l : Loose) where
       done true c x y z e = let o : _≡_ {A = ℕ} 0 1 = cc in omega arith
       done false true x y z e = let o : _≡_ {A = ℕ} 0 1 = cc in omega arith
       done false false x y z e = let o : _≡_ {A = ℕ} 0 1 = cc in omega arith
+
+-- at an exponent of 0 or below the magnitude does not count
+pub closed-any : (s t u e : ℕ) → e ≤ 256 → closed s (loose t e 0) ≡ closed s (loose u e 0)
+closed-any s t u e h = go (ltb e 256) refl
+  where
+    go : (b : Bool) → ltb e 256 ≡ b → closed s (loose t e 0) ≡ closed s (loose u e 0)
+    go true i = let g = ltb-true e 256 i in closed-below-zero s (loose t e 0) g ∙ sym (closed-below-zero s (loose u e 0) g)
+    go false i = let g : e ≡ 256 = omega (arith, ltb-false e 256 i) in closed-smallest s (loose t e 0) g ∙ sym (closed-smallest s (loose u e 0) g)
+
+-- the top bit goes without saying
+pub closed-low-bits : (s t e : ℕ) → closed s (loose t e 0) ≡ closed s (loose (t % 2 ^ 31) e 0)
+unfolding closed
+closed-low-bits s t e =
+    let same : (t + 0) % 2 ^ 31 ≡ (t % 2 ^ 31 + 0) % 2 ^ 31 = omega arith in
+    ap (λ (m : ℕ). cond (ltb (255 + 256) e) TooBig (cond (ltb e 256) (Done zeros) (cond (eqb e 256) (Done (fullOf s 1 (2 ^ 31))) (Done (number (e - 256) (m + 2 ^ 31 * (s % 2))))))) same
 
 module _ (s t e digits : ℕ) where
   pub ended-zero : t ≡ 0 → ended s t e digits ≡ Done zeros

@@ -1,4 +1,4 @@
--- Document 01, "Literals": the ten literals, with what each does and how many numbers it takes and leaves.
+-- Document 01, "Literals", and document 02, A1: the eleven literals, with what each does and how many numbers it takes and leaves.
 use Prim.Native.Nat.{ℕ}
 use mathlib.Core.Bool.{cond}
 use mathlib.Core.List.{List, [], _∷_}
@@ -10,6 +10,7 @@ use Rattle.ending.specs.declared.answer.Answer.{Answer}
 use Rattle.ending.specs.declared.answer.Answer.the-variants.{Done}
 use Rattle.addition.specs.Addition.{sumOf, differenceOf}
 use Rattle.division.specs.Division.{quotientOf}
+use Rattle.multiplication.specs.Multiplication.{productOf}
 use Rattle.truncation.specs.Truncate.{truncated}
 use Rattle.truncation.specs.Int.{intOf}
 
@@ -37,6 +38,7 @@ table =
     row 1 exchange 2 2
     ∷ row 2 delete 1 0
     ∷ row 3 (two differenceOf) 2 1
+    ∷ row 4 (two productOf) 2 1
     ∷ row 5 (two quotientOf) 2 1
     ∷ row 15 (two sumOf) 2 1
     ∷ row 27 (one (λ x. Done (negated x))) 1 1

@@ -30,8 +30,8 @@ module _ (s : List ℕ) (d l : ℕ) where
   operate-kept o s′ e h = settled-refused (reportOf s d l) d s _ _ o s′ e h
 
 -- a literal that is in no row
-module _ (l : ℕ) (a : l ≡ 1 → ⊥) (b : l ≡ 2 → ⊥) (c : l ≡ 3 → ⊥) (d : l ≡ 5 → ⊥) (e : l ≡ 15 → ⊥) (f : l ≡ 27 → ⊥) (g : l ≡ 39 → ⊥) (h : l ≡ 49 → ⊥)
-    (i : l ≡ 58 → ⊥) (j : l ≡ 61 → ⊥) where
+module _ (l : ℕ) (a : l ≡ 1 → ⊥) (b : l ≡ 2 → ⊥) (c : l ≡ 3 → ⊥) (d : l ≡ 4 → ⊥) (e : l ≡ 5 → ⊥) (f : l ≡ 15 → ⊥) (g : l ≡ 27 → ⊥) (h : l ≡ 39 → ⊥)
+    (i : l ≡ 49 → ⊥) (j : l ≡ 58 → ⊥) (k : l ≡ 61 → ⊥) where
   no-row : rowOf l ≡ row l unknown 0 0
   unfolding rowOf
   no-row =
@@ -39,13 +39,14 @@ module _ (l : ℕ) (a : l ≡ 1 → ⊥) (b : l ≡ 2 → ⊥) (c : l ≡ 3 → 
         ne-eqb l 1 a,
         ne-eqb l 2 b,
         ne-eqb l 3 c,
-        ne-eqb l 5 d,
-        ne-eqb l 15 e,
-        ne-eqb l 27 f,
-        ne-eqb l 39 g,
-        ne-eqb l 49 h,
-        ne-eqb l 58 i,
-        ne-eqb l 61 j,
+        ne-eqb l 4 d,
+        ne-eqb l 5 e,
+        ne-eqb l 15 f,
+        ne-eqb l 27 g,
+        ne-eqb l 39 h,
+        ne-eqb l 49 i,
+        ne-eqb l 58 j,
+        ne-eqb l 61 k,
       )
 
   pub in-no-row : notInTable (operationOf l) ≡ true

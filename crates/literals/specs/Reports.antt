@@ -34,7 +34,7 @@ noRoomFor (one f) s d = false
 noRoomFor (two f) s d = false
 noRoomFor unknown s d = false
 
--- 3: "an operand of 3, 5, 15, 27, 39, 58, 61 is malformed"
+-- 3: "an operand of 3, 5, 15, 27, 39, 58, 61 is malformed" (A1: "4 joins its list")
 unfoldable pub malformedOperand : Operation → List ℕ → ℕ → Bool
 malformedOperand (one f) s d = malformed (top s d)
 malformedOperand (two f) s d = malformed (lower s d) || malformed (top s d)

@@ -1,4 +1,4 @@
-// The table of the ten literals, a row each: the literal, how many numbers it takes, how many it leaves. The checks read it, and the compiler
+// The table of the eleven literals, a row each: the literal, how many numbers it takes, how many it leaves. The checks read it, and the compiler
 // folds the reads.
 pub const EXCHANGE: u8 = 1;
 
@@ -17,6 +17,12 @@ pub const SUBTRACT: u8 = 3;
 pub const SUBTRACT_TAKES: usize = 2;
 
 pub const SUBTRACT_LEAVES: usize = 1;
+
+pub const MULTIPLY: u8 = 4;
+
+pub const MULTIPLY_TAKES: usize = 2;
+
+pub const MULTIPLY_LEAVES: usize = 1;
 
 pub const DIVIDE: u8 = 5;
 

@@ -1,7 +1,7 @@
 -- A number as the arithmetic takes it: whether it is malformed, and the parts of its re-stacked form.
 use Prim.Native.Nat.{ℕ, _+_, _*_, _-_, _^_, _/_, _%_, _≤_, _<_}
 use mathlib.Core.Path.{_≡_, refl, sym, _∙_, ap, subst}
-use mathlib.Core.Bool.{Bool, true, false}
+use mathlib.Core.Bool.{Bool, false}
 use mathlib.Core.Logic.{_⊎_, inl, inr}
 use native.Mathlib.Nat.{mod-eq-of-lt, eq-zero-or-pos}
 use native.Mathlib.Omega.{arith}
@@ -9,12 +9,13 @@ use borrow.Author.Tests.{eq-eqb, ne-eqb}
 use lib.Bits.{bitXor, xor-add-and, and-mask, xor-zero-r}
 use lib.Count.{leadingZeros}
 use Rattle.number.specs.declared.Number.{Number}
+use Rattle.number.specs.declared.operand.Magnitude.{Magnitude}
 use Rattle.number.specs.declared.operand.Operand.{Operand}
-use Rattle.number.specs.Number.{number, zeros, low, shortMagnitude, complementOf, malformed, fullOf}
+use Rattle.number.specs.Number.{number, zeros, sign, low, shortMagnitude, complementOf, malformed, fullOf}
 use Rattle.number.specs.NumberLaws.{Bytes}
-use Rattle.number.specs.FormLaws.{malformed-full, malformed-short, malformed-between, malformed-negative}
+use Rattle.number.specs.FormLaws.{malformed-full, malformed-short, malformed-negative}
 use Rattle.number.specs.Restack.{restacked, fullOfShort}
-use Rattle.number.specs.RestackLaws.{restack-full, restack-zero, restack-some}
+use Rattle.number.specs.RestackLaws.{restack-full, restack-some}
 
 abbrev pub operand : Bool → ℕ → ℕ → ℕ → Operand
 operand f s m e = record { malformed = f; sign = s; m = m; e = e }
@@ -27,6 +28,12 @@ pub record Unpacks (x : Number) (u : Operand) : Type 0 where
   pub stands : malformed x ≡ false → packed u ≡ restacked x
   pub byte : u .e < 256
   pub none : u .e ≡ 0 → packed u ≡ zeros
+
+-- of a number that is not full: how far it is from zero, and its sign on top of the mask
+pub record Measures (x : Number) (m : Magnitude) : Type 0 where
+  pub form : m .malformed ≡ malformed x
+  pub away : malformed x ≡ false → m .v ≡ shortMagnitude x
+  pub signs : malformed x ≡ false → m .mask / 2 ^ 31 ≡ sign x
 
 -- what is not full goes by its word alone
 pub unpacks-short : (x : Number) (u : Operand) → x .b1 ≡ 0 → Unpacks (number 0 (x .word)) u → Unpacks x u

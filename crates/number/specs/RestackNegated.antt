@@ -16,7 +16,7 @@ use Rattle.number.specs.Negate.{negatedAs, negated}
 use Rattle.number.specs.NegateLaws.{negate-zero, negate-short}
 
 -- what is written for a sign and a magnitude is read as them
-short-parts : (s v : ℕ) → s < 2 → v < 2 ^ 16 → (sign (shortOf s v) ≡ s) × (shortMagnitude (shortOf s v) ≡ v)
+pub short-parts : (s v : ℕ) → s < 2 → v < 2 ^ 16 → (sign (shortOf s v) ≡ s) × (shortMagnitude (shortOf s v) ≡ v)
 short-parts zero v h g =
     let none : sign (halves 0 v) ≡ 0 = omega arith in
     (none, simp (eq-eqb (sign (halves 0 v)) 0 none) (low-halves 0 v g))

@@ -5,7 +5,9 @@ mod parts;
 
 pub use form::Form;
 pub use form::form_of;
+pub use operand::Magnitude;
 pub use operand::Operand;
+pub use operand::magnitude_of;
 pub use operand::operand_of;
 pub use operand::short_operand;
 pub use parts::complement;

@@ -8,17 +8,18 @@ use Rattle.literals.specs.OperateLaws.{in-no-row}
 use Rattle.calculator.proofs.operation.operate_in_place.Statement.{statement}
 use Rattle.calculator.proofs.operation.operate_in_place.Tie as tie
 
-returns-12 : tie.Need-returns-12
-returns-12 c =
+returns-13 : tie.Need-returns-13
+returns-13 c =
     let r = c .before .before .before .match .rest in
     c .unknown2 .ensures _
-    (in-no-row _ (r .0 .0 .0 .0 .0 .0 .0 .0 .0 .1) (r .0 .0 .0 .0 .0 .0 .0 .0 .1) (r .0 .0 .0 .0 .0 .0 .0 .1) (r .0 .0 .0 .0 .0 .0 .1) (r .0 .0 .0 .0 .0 .1) (r .0 .0 .0 .0 .1) (r .0 .0 .0 .1) (r .0 .0 .1) (r .0 .1) (r .1))
+    (in-no-row _ (r .0 .0 .0 .0 .0 .0 .0 .0 .0 .0 .1) (r .0 .0 .0 .0 .0 .0 .0 .0 .0 .1) (r .0 .0 .0 .0 .0 .0 .0 .0 .1) (r .0 .0 .0 .0 .0 .0 .0 .1) (r .0 .0 .0 .0 .0 .0 .1) (r .0 .0 .0 .0 .0 .1) (r .0 .0 .0 .0 .1) (r .0 .0 .0 .1) (r .0 .0 .1) (r .0 .1) (r .1))
 
 pub operate-in-place-spec : {M : Type 1} → statement M
 unfolding notInTable operationOf rowOf
 operate-in-place-spec =
     tie.close
     (tie.spec
+    (λ c κs. tt)
     (λ c κs. tt)
     (λ c κs. tt)
     (λ c κs. tt)
@@ -40,18 +41,20 @@ operate-in-place-spec =
     (λ c. search needs)
     (λ c. ap (operateOf _ _) (c .before .before .before .before .before .match .keys4) ∙ c .before .before .subtract .ensures)
     (λ c. search needs)
-    (λ c. ap (operateOf _ _) (c .before .before .before .before .before .match .keys5) ∙ c .before .before .divide .ensures)
+    (λ c. ap (operateOf _ _) (c .before .before .before .before .before .match .keys5) ∙ c .before .before .multiply .ensures)
     (λ c. search needs)
-    (λ c. ap (operateOf _ _) (c .before .before .before .before .before .match .keys6) ∙ c .before .before .add .ensures)
+    (λ c. ap (operateOf _ _) (c .before .before .before .before .before .match .keys6) ∙ c .before .before .divide .ensures)
     (λ c. search needs)
-    (λ c. ap (operateOf _ _) (c .before .before .before .before .before .match .keys7) ∙ c .before .before .negate .ensures)
+    (λ c. ap (operateOf _ _) (c .before .before .before .before .before .match .keys7) ∙ c .before .before .add .ensures)
     (λ c. search needs)
-    (λ c. ap (operateOf _ _) (c .before .before .before .before .before .match .keys8) ∙ c .before .before .int .ensures)
+    (λ c. ap (operateOf _ _) (c .before .before .before .before .before .match .keys8) ∙ c .before .before .negate .ensures)
     (λ c. search needs)
-    (λ c. ap (operateOf _ _) (c .before .before .before .before .before .match .keys9) ∙ c .before .before .duplicate .ensures)
+    (λ c. ap (operateOf _ _) (c .before .before .before .before .before .match .keys9) ∙ c .before .before .int .ensures)
     (λ c. search needs)
-    (λ c. ap (operateOf _ _) (c .before .before .before .before .before .match .keys10) ∙ c .before .before .truncate .ensures)
+    (λ c. ap (operateOf _ _) (c .before .before .before .before .before .match .keys10) ∙ c .before .before .duplicate .ensures)
     (λ c. search needs)
-    (λ c. ap (operateOf _ _) (c .before .before .before .before .before .match .keys11) ∙ c .before .before .re-stack .ensures)
+    (λ c. ap (operateOf _ _) (c .before .before .before .before .before .match .keys11) ∙ c .before .before .truncate .ensures)
     (λ c. search needs)
-    returns-12)
+    (λ c. ap (operateOf _ _) (c .before .before .before .before .before .match .keys12) ∙ c .before .before .re-stack .ensures)
+    (λ c. search needs)
+    returns-13)

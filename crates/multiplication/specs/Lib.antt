@@ -1,0 +1,3 @@
+pub mod Multiplication
+pub mod MultiplicationLaws
+pub mod ShortProduct

@@ -1,0 +1,119 @@
+-- Multiplication's laws: a law for each way through the definition, and the mantissa and exponent as the code finds them.
+use mathlib.Core.Path.{_≡_, refl, sym, _∙_, ap, ap₂}
+use mathlib.Core.Bool.{Bool, true, false, cond}
+use Prim.Native.Nat.{ℕ, _+_, _*_, _-_, _^_, _/_, _%_, _≤_, _<_}
+use native.Mathlib.Nat.{mul-le-mul}
+use native.Mathlib.Omega.{arith}
+use borrow.Author.Tests.{lt-leb, le-leb, eq-eqb, ne-eqb, leb-true, leb-false, ltb-true, ltb-false, eqb-true, eqb-false}
+use lib.Dec.{ltb, leb, eqb}
+use Rattle.number.specs.declared.Number.{Number}
+use Rattle.number.specs.Number.{zeros, mantissa}
+use Rattle.number.specs.Restack.{restacked}
+use Rattle.ending.specs.declared.answer.Answer.the-variants.{Done}
+use Rattle.ending.specs.Ending.{loose, closed}
+use Rattle.ending.specs.EndingLaws.{closed-any, closed-low-bits}
+use Rattle.division.specs.Demand3.{nearest}
+use Rattle.division.specs.Operand.{IsFull}
+use Rattle.multiplication.specs.Multiplication.{bothShort, shortProduct, shortStored, signOfTwo, taken, productMantissa, carried, endedProduct, fullProduct, restackedProduct, productOf}
+
+-- ---- the ways through
+
+module _ (x y : Number) where
+  pub product-short : x .b1 ≡ 0 → y .b1 ≡ 0 → shortProduct x y ≤ 65535 → productOf x y ≡ Done (shortStored (signOfTwo x y) (shortProduct x y))
+  unfolding productOf
+  product-short h g l = simp (eq-eqb (x .b1) 0 h, eq-eqb (y .b1) 0 g, le-leb (shortProduct x y) 65535 l)
+
+  pub product-beyond : x .b1 ≡ 0 → y .b1 ≡ 0 → 65535 < shortProduct x y → productOf x y ≡ restackedProduct (restacked x) (restacked y)
+  unfolding productOf
+  product-beyond h g l = simp (eq-eqb (x .b1) 0 h, eq-eqb (y .b1) 0 g, lt-leb (shortProduct x y) 65535 l)
+
+  pub product-restacked : bothShort x y ≡ false → productOf x y ≡ restackedProduct (restacked x) (restacked y)
+  unfolding productOf
+  product-restacked h = simp h
+
+  -- of re-stacked numbers
+  pub zero-first : x .b1 ≡ 0 → restackedProduct x y ≡ Done zeros
+  unfolding restackedProduct
+  zero-first h = simp (eq-eqb (x .b1) 0 h)
+
+  pub zero-second : (x .b1 ≡ 0 → ⊥) → y .b1 ≡ 0 → restackedProduct x y ≡ Done zeros
+  unfolding restackedProduct
+  zero-second h g = simp (ne-eqb (x .b1) 0 h, eq-eqb (y .b1) 0 g)
+
+  neither : (x .b1 ≡ 0 → ⊥) → (y .b1 ≡ 0 → ⊥) → restackedProduct x y ≡ fullProduct x y
+  unfolding restackedProduct
+  neither h g = simp (ne-eqb (x .b1) 0 h, ne-eqb (y .b1) 0 g)
+
+-- ---- P and the mantissa
+
+-- what P lies between
+pub product-bounds : (m n : ℕ) → 2 ^ 31 ≤ m → m < 2 ^ 32 → 2 ^ 31 ≤ n → n < 2 ^ 32 → (2 ^ 62 ≤ m * n) × (m * n ≤ 2 ^ 64 - 2 ^ 33 + 1)
+product-bounds m n a b c d =
+    let most : m * n ≤ (2 ^ 32 - 1) * (2 ^ 32 - 1) = mul-le-mul {n₂ = 2 ^ 32 - 1} {m₂ = 2 ^ 32 - 1} (omega arith) (omega arith) in
+    (mul-le-mul {n₁ = 2 ^ 31} {m₁ = 2 ^ 31} a c, omega arith)
+
+-- P from its top bit on
+abbrev pub topped : ℕ → ℕ
+topped p = cond (ltb p (2 ^ 63)) (2 * p) p
+
+-- its first 33 digits are the mantissa and the digit that rounds it
+pub mantissa-rounded : (p : ℕ) → productMantissa p ≡ (topped p / 2 ^ 31 + 1) / 2
+mantissa-rounded p = go (ltb p (2 ^ 63)) refl
+  where
+    go : (b : Bool) → ltb p (2 ^ 63) ≡ b → productMantissa p ≡ (cond b (2 * p) p / 2 ^ 31 + 1) / 2
+    go true e = simp (lt-leb (2 ^ 63) p (ltb-true _ _ e)) (omega arith)
+    go false e = simp (le-leb (2 ^ 63) p (ltb-false _ _ e)) (omega arith)
+
+-- a mantissa of 2^32 carries into the exponent, and the bits that are stored are the same
+carried-closed : (s m e : ℕ) → m ≤ 2 ^ 32 → closed s (carried m e) ≡ closed s (loose (m % 2 ^ 31) (e + m / 2 ^ 32) 0)
+carried-closed s m e h = go (eqb m (2 ^ 32)) refl
+  where
+    go : (b : Bool) → eqb m (2 ^ 32) ≡ b → closed s (cond b (loose (2 ^ 31) (e + 1) 0) (loose m e 0)) ≡ closed s (loose (m % 2 ^ 31) (e + m / 2 ^ 32) 0)
+    go true i =
+        let is = eqb-true m (2 ^ 32) i in
+        closed-low-bits s (2 ^ 31) (e + 1) ∙ ap₂ (λ (t k : ℕ). closed s (loose t k 0)) (omega arith) (omega arith)
+    go false i =
+        let less : m < 2 ^ 32 = omega (arith, eqb-false m (2 ^ 32) i) in
+        closed-low-bits s m e ∙ ap (λ (k : ℕ). closed s (loose (m % 2 ^ 31) k 0)) (omega arith)
+
+-- ---- of two full numbers
+
+module _ (x y : Number) (f : IsFull x) (g : IsFull y) where
+  abbrev p : ℕ
+  p = mantissa x * mantissa y
+
+  pub bounds : (2 ^ 62 ≤ p) × (p ≤ 2 ^ 64 - 2 ^ 33 + 1)
+  bounds = product-bounds (mantissa x) (mantissa y) (omega arith) (omega arith) (omega arith) (omega arith)
+
+  -- the mantissa, before the carry
+  pub mantissa-bounds : (2 ^ 31 ≤ productMantissa p) × (productMantissa p ≤ 2 ^ 32)
+  mantissa-bounds = go (leb (2 ^ 63) p) refl
+    where
+      go : (b : Bool) → leb (2 ^ 63) p ≡ b
+          → (2 ^ 31 ≤ cond b (nearest p (2 ^ 32)) (nearest p (2 ^ 31))) × (cond b (nearest p (2 ^ 32)) (nearest p (2 ^ 31)) ≤ 2 ^ 32)
+      go true e = omega (arith, leb-true (2 ^ 63) p e, bounds)
+      go false e = omega (arith, leb-false (2 ^ 63) p e, bounds)
+
+  -- E, by the digit that says whether P is at least 2^63
+  exponent : x .b1 + y .b1 + 256 - taken p ≡ x .b1 + y .b1 + 127 + p / 2 ^ 63
+  exponent = go (leb (2 ^ 63) p) refl
+    where
+      go : (b : Bool) → leb (2 ^ 63) p ≡ b → x .b1 + y .b1 + 256 - cond b 128 129 ≡ x .b1 + y .b1 + 127 + p / 2 ^ 63
+      go true e = omega (arith, leb-true (2 ^ 63) p e, bounds)
+      go false e = omega (arith, leb-false (2 ^ 63) p e, bounds)
+
+  module _ (e : ℕ) (i : e ≡ x .b1 + y .b1 + 127 + p / 2 ^ 63) where
+    is-ended : restackedProduct x y ≡ endedProduct (signOfTwo x y) (productMantissa p) e
+    unfolding fullProduct
+    is-ended = neither x y (omega arith) (omega arith) ∙ ap (endedProduct (signOfTwo x y) (productMantissa p)) (exponent ∙ sym i)
+
+    -- E of 0 or below
+    pub product-low : e ≤ 256 → (t : ℕ) → restackedProduct x y ≡ closed (signOfTwo x y) (loose t e 0)
+    product-low h t = is-ended ∙ simp (le-leb e 256 h) (closed-any (signOfTwo x y) (productMantissa p) t e h)
+
+    -- any other
+    pub product-high : 256 < e → (m : ℕ) → m ≡ productMantissa p → restackedProduct x y ≡ closed (signOfTwo x y) (loose (m % 2 ^ 31) (e + m / 2 ^ 32) 0)
+    product-high h m j =
+        is-ended
+        ∙ simp (lt-leb e 256 h) (carried-closed (signOfTwo x y) (productMantissa p) e (mantissa-bounds .1))
+        ∙ ap (λ (k : ℕ). closed (signOfTwo x y) (loose (k % 2 ^ 31) (e + k / 2 ^ 32) 0)) (sym j)

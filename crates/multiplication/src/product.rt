@@ -1,0 +1,100 @@
+// Multiplication: one machine product, where the listing adds and shifts.
+use ending::Answer;
+use number::Number;
+ghost use mathlib.Core.Path.{_≡_};
+ghost use Prim.Native.Nat.{ℕ, _^_, _/_, _%_};
+ghost use Rattle.number.specs.Number.{number, low, fullOf};
+ghost use Rattle.multiplication.specs.Multiplication.{restackedProduct};
+ghost use Rattle.multiplication.specs.MultiplicationLaws.{topped as toppedOf};
+ghost use Rattle.multiplication.specs.ShortProduct.{Multiplied};
+
+// What two numbers whose b1 is 0 come to, unless one is malformed.
+pub struct Product {
+    pub malformed: bool,
+    pub b1: u8,
+    pub word: u32,
+}
+
+// Of two numbers whose b1 is 0, each by its b2, as the low byte of a word, and its low half. Their product is below 2^32, so nothing is rounded: beyond
+// 65,535 it is the full number of its value, and no number is re-stacked.
+pub fn short_product(b: u32, h: u16, c: u32, k: u16) -> Product
+    ensures { λ r. ⌜ ((w v : ℕ) → w / 2 ^ 24 ≡ b % 256 → low (number 0 w) ≡ h → v / 2 ^ 24 ≡ c % 256 → low (number 0 v) ≡ k → Multiplied (number 0 w) (number 0 v) r) ⌝ }
+{
+    let x = number::magnitude_of(b, h);
+    if x.malformed {
+        return Product {
+            malformed: true,
+            b1: 0,
+            word: 0,
+        };
+    }
+    let y = number::magnitude_of(c, k);
+    if y.malformed {
+        return Product {
+            malformed: true,
+            b1: 0,
+            word: 0,
+        };
+    }
+    let v = x.v * y.v;
+    if v == 0 {
+        return Product {
+            malformed: false,
+            b1: 0,
+            word: 0,
+        };
+    }
+    let sign = (x.mask ^ y.mask) / 2147483648;
+    if v < 65536 {
+        return Product {
+            malformed: false,
+            b1: 0,
+            word: number::short_word(sign as u8, v as u16),
+        };
+    }
+    let places = u32::leading_zeros(v);
+    Product {
+        malformed: false,
+        b1: (160 - places) as u8,
+        word: number::full_word(sign as u8, (v << places) as u64),
+    }
+}
+
+// P from its top bit on. Whether that is 2^63 is as good as random: the compiler selects, and no branch goes by it.
+fn topped(p: u64) -> u64
+    ensures { λ r. ⌜ r ≡ toppedOf p ⌝ }
+{
+    if p < 9223372036854775808 {
+        return 2 * p;
+    }
+    p
+}
+
+// Of re-stacked numbers, in the parts that `division` takes.
+pub fn multiplication(s: u32, m: u32, e: u32, t: u32, n: u32, f: u32) -> Answer
+    ensures { λ r. ⌜ r ≡ restackedProduct (fullOf (s / 2 ^ 31) (e % 256) m) (fullOf (t / 2 ^ 31) (f % 256) n) ⌝ }
+{
+    let first = e % 256;
+    let second = f % 256;
+    if first == 0 {
+        return Answer::Done(Number { b1: 0, word: 0 });
+    }
+    if second == 0 {
+        return Answer::Done(Number { b1: 0, word: 0 });
+    }
+    let p = ((m % 2147483648) as u64 + 2147483648) * ((n % 2147483648) as u64 + 2147483648);
+    let sign = (s ^ t) / 2147483648;
+    // The ending keeps an exponent as e + 256.
+    let before = first as u64 + second as u64 + 127 + p / 9223372036854775808;
+    if before < 257 {
+        return ending::close(sign as u8, 0, before, 0);
+    }
+    // The mantissa and one digit more, which rounds it. Where that carries to 2^32, the exponent rises and the bits that are stored are those of 2^31.
+    let rounded = (topped(p) / 2147483648 + 1) / 2;
+    ending::close(
+        sign as u8,
+        (rounded % 2147483648) as u32,
+        before + rounded / 4294967296,
+        0,
+    )
+}
