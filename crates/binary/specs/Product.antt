@@ -1,14 +1,13 @@
 -- Literal 4's row of the table, and what is known of its two numbers once they are there. No public contract cites this file.
 use Prim.Native.Nat.{ℕ}
 use mathlib.Core.Path.{_≡_, refl, sym, _∙_, ap}
-use mathlib.Core.Bool.{Bool, true, false, _||_, and-eq-true-iff}
+use mathlib.Core.Bool.{Bool, true, false, _||_}
 use mathlib.Core.List.{List}
-use borrow.Author.Tests.{eqb-true}
-use lib.Dec.{eqb}
 use Rattle.number.specs.declared.Number.{Number}
 use Rattle.number.specs.Number.{number, malformed}
 use Rattle.slots.specs.Reach.{lacking, numberAt}
 use Rattle.multiplication.specs.Multiplication.{bothShort, productOf}
+use Rattle.multiplication.specs.MultiplicationLaws.{both-zero}
 use Rattle.literals.specs.Literals.{two, row, rowOf}
 use Rattle.literals.specs.Operate.{outcome, operateOf}
 use Rattle.literals.specs.WayLaws.{two-malformed}
@@ -26,8 +25,8 @@ pub record Pair (s : List ℕ) (d old : ℕ) (short : Bool) : Type 0 where
 -- both go by their words then
 pub by-words : (x y : Number) → bothShort x y ≡ true → (number 0 (x .word) ≡ x) × (number 0 (y .word) ≡ y)
 by-words x y h =
-    let p = and-eq-true-iff (eqb (x .b1) 0) (eqb (y .b1) 0) .0 h in
-    (ap (λ (b : ℕ). number b (x .word)) (sym (eqb-true _ _ (p .0))), ap (λ (b : ℕ). number b (y .word)) (sym (eqb-true _ _ (p .1))))
+    let z = both-zero x y h in
+    (ap (λ (b : ℕ). number b (x .word)) (sym (z .0)), ap (λ (b : ℕ). number b (y .word)) (sym (z .1)))
 
 pub pair-malformed : (s : List ℕ) (d old : ℕ) (b : Bool) → Pair s d old b → malformed (numberAt s old 1) || malformed (numberAt s old 0) ≡ true → operateOf s d 4 ≡ (outcome 3 d, s)
 pair-malformed s d old b p m =

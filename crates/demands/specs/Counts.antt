@@ -23,7 +23,7 @@ leavesOf (one f) = 1
 leavesOf (two f) = 1
 leavesOf unknown = 0
 
--- a row's numbers are those of its operation: computed at each of the ten rows
+-- a row's numbers are those of its operation: computed at each of the eleven rows
 abbrev counts : Row → Bool
 counts r = eqb (r .takes) (takesOf (r .operation)) && eqb (r .leaves) (leavesOf (r .operation))
 

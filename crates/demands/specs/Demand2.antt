@@ -11,6 +11,7 @@ use Rattle.number.specs.Negate.{negated}
 use Rattle.truncation.specs.Truncate.{truncated}
 use Rattle.addition.specs.Addition.{sumOf, differenceOf}
 use Rattle.division.specs.Division.{quotientOf}
+use Rattle.multiplication.specs.Multiplication.{productOf}
 use Rattle.truncation.specs.Int.{intOf}
 use Rattle.ending.specs.declared.answer.Answer.{Answer}
 use Rattle.ending.specs.declared.answer.Answer.the-variants.{Done}
@@ -26,12 +27,12 @@ use Rattle.demands.specs.Accepted.{accepted, within, pushable, fits}
 use Rattle.demands.specs.Counts.{takesOf, takes-are}
 use Rattle.demands.specs.Bytes.{Only, only-put, number-of}
 
--- the ten literals
-pub literals : (operationOf 1 ≡ exchange) × (operationOf 2 ≡ delete) × (operationOf 3 ≡ two differenceOf) × (operationOf 5 ≡ two quotientOf)
-    × (operationOf 15 ≡ two sumOf) × (operationOf 27 ≡ one (λ x. Done (negated x))) × (operationOf 39 ≡ one intOf)
+-- the eleven literals
+pub literals : (operationOf 1 ≡ exchange) × (operationOf 2 ≡ delete) × (operationOf 3 ≡ two differenceOf) × (operationOf 4 ≡ two productOf)
+    × (operationOf 5 ≡ two quotientOf) × (operationOf 15 ≡ two sumOf) × (operationOf 27 ≡ one (λ x. Done (negated x))) × (operationOf 39 ≡ one intOf)
     × (operationOf 49 ≡ duplicate) × (operationOf 58 ≡ one (λ x. Done (truncated x))) × (operationOf 61 ≡ one (λ x. Done (restacked x)))
 unfolding operationOf rowOf
-literals = (refl, refl, refl, refl, refl, refl, refl, refl, refl, refl)
+literals = (refl, refl, refl, refl, refl, refl, refl, refl, refl, refl, refl)
 
 module _ (s : List ℕ) (d l : ℕ) (ok : reportOf s d l ≡ 0) where
   -- what is known of an accepted literal: the numbers that it takes stand within the stack
@@ -45,7 +46,7 @@ module _ (s : List ℕ) (d l : ℕ) (ok : reportOf s d l ≡ 0) where
   pub new-depth : operateOf s d l .0 .depth ≡ d - takes l + leaves l
   new-depth = ap (λ x. x .0 .depth) (operate-done s d l ok)
 
-  -- "The lower operand is the first, and the result stands in its slot", for subtract, divide and add. The second's slot is elsewhere.
+  -- "The lower operand is the first, and the result stands in its slot", for subtract, multiply, divide and add. The second's slot is elsewhere.
   pub after-two : (f : Number → Number → Answer) → operationOf l ≡ two f
       → (n : Number) × (f (lower s d) (top s d) ≡ Done n) × Only s (operateOf s d l .1) (d - 2) (bytesOf n)
   unfolding tooBig bytesAfter stored bytesOf

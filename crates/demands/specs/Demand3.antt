@@ -1,6 +1,6 @@
 -- Demand 3, of literal 5's own report, depth and bytes on a stack. What its digits write, and what the result is, are the records of crate division.
 use Prim.Native.Nat.{ℕ, _+_, _-_, _*_, _≤_, _<_}
-use mathlib.Core.Path.{_≡_, refl, sym, _∙_, ap, subst⁻¹}
+use mathlib.Core.Path.{_≡_, sym, _∙_, ap, subst⁻¹}
 use mathlib.Core.Logic.{_↔_}
 use mathlib.Core.List.{List}
 use native.Mathlib.Omega.{arith}
@@ -14,14 +14,14 @@ use Rattle.division.specs.Demand3.{added, Digits, Result, Demand3}
 use Rattle.division.specs.Demand3Laws.{demand3}
 use Rattle.slots.specs.declared.outcome.Outcome.{Outcome}
 use Rattle.slots.specs.Slots.{numberIn, lower, top}
-use Rattle.literals.specs.Literals.{rowOf, operationOf, takes, leaves}
+use Rattle.literals.specs.Literals.{rowOf, operationOf, takes}
 use Rattle.literals.specs.Reports.{isTooBig, tooBig}
 use Rattle.literals.specs.Operate.{operateOf}
-use Rattle.demands.specs.SlotFacts.{number-there}
-use Rattle.demands.specs.Accepted.{Passed, accepted, too-big, within}
+use Rattle.demands.specs.Accepted.{Passed, too-big}
 use Rattle.demands.specs.Bytes.{AreBytes, operand-bytes, is-too-big}
 use Rattle.demands.specs.Demand1.{operation-report}
-use Rattle.demands.specs.Demand2.{new-depth, after-two}
+use Rattle.demands.specs.Demand2.{literals}
+use Rattle.demands.specs.Answered.{answered}
 
 -- "any two well-formed operands of a division that no report before 6 refuses, neither counting as zero": a malformed one is report 3
 pub record Divides (s : List ℕ) (d : ℕ) : Type 0 where
@@ -66,19 +66,14 @@ module _ (s : List ℕ) (d : ℕ) (h : Divides s d) where
       (operand-bytes s d 5 1 (h .bytes) (h .passed) (omega arith) (omega arith)) (h .dividend) (h .divisor)
 
   is-left : (E : ℕ) (n : Number) → quotientOf (lower s d) (top s d) ≡ Done n → Result (M s d) (N s d) E n → Left s d E
-  unfolding operationOf rowOf takes leaves tooBig isTooBig
   is-left E n e r =
-      let ok = accepted s d 5 .1 (h .passed, ap isTooBig e) in
-      let w = within s d 5 (h .passed) in
-      let a = after-two s d 5 ok quotientOf refl in
-      let same : a .0 ≡ n = cc (a .1, e) in
-      let there : numberIn (divided s d .1) (d - 2) ≡ n = number-there (divided s d .1) (d - 2) (omega (arith, a .2 .long)) (a .0) (a .2 .there) ∙ same in
+      let a = answered s d 5 quotientOf (literals .4) (h .passed) n e in
       record {
-        report = operation-report s d 5 ∙ ok;
-        depth = new-depth s d 5 ok ∙ omega arith;
-        result = subst⁻¹ (Result (M s d) (N s d) E) there r;
-        long = a .2 .long;
-        elsewhere = a .2 .elsewhere;
+        report = a .report;
+        depth = a .depth;
+        result = subst⁻¹ (Result (M s d) (N s d) E) (a .there) r;
+        long = a .long;
+        elsewhere = a .elsewhere;
       }
 
   -- Demand 3: every clause of it, of what literal 5 gives.

@@ -8,7 +8,9 @@ pub mod Demand1
 pub mod Demand2
 pub mod Demand2Reads
 pub mod Demand2Run
+pub mod Answered
 pub mod Demand3
 pub mod Report1
 pub mod Report6
+pub mod Products
 pub mod Sums

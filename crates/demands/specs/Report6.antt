@@ -15,6 +15,9 @@ use Rattle.addition.specs.TooBig.{SumTooBig, sum-too-big, difference-too-big}
 use Rattle.division.specs.Division.{quotientOf}
 use Rattle.division.specs.Demand3.{QuotientTooBig}
 use Rattle.division.specs.Demand3Laws.{quotient-too-big}
+use Rattle.multiplication.specs.Multiplication.{productOf}
+use Rattle.multiplication.specs.Rounding.{ProductTooBig}
+use Rattle.multiplication.specs.RoundingLaws.{product-too-big}
 use Rattle.truncation.specs.Truncate.{truncated}
 use Rattle.truncation.specs.StepLaws.{int-done}
 use Rattle.slots.specs.Slots.{lower, top}
@@ -53,11 +56,15 @@ module _ (s : List ℕ) (b : AreBytes s) (d : ℕ) where
 
   -- divide: the divisor counts as zero; or neither does, and E is above 255
   pub division-6 : (operateOf s d 5 .0 .report ≡ 6) ↔ (Passed s d 5 × QuotientTooBig (lower s d) (top s d))
-  division-6 = of-two 5 quotientOf QuotientTooBig (literals .3) quotient-too-big
+  division-6 = of-two 5 quotientOf QuotientTooBig (literals .4) quotient-too-big
+
+  -- multiply: neither counts as zero, and the exponent bytes and P are A1's
+  pub multiplication-6 : (operateOf s d 4 .0 .report ≡ 6) ↔ (Passed s d 4 × ProductTooBig (lower s d) (top s d))
+  multiplication-6 = of-two 4 productOf ProductTooBig (literals .3) product-too-big
 
   -- add: the aligned sum is 2^32 or more, or -2^32 or less, at exponent byte 255
   pub addition-6 : (operateOf s d 15 .0 .report ≡ 6) ↔ (Passed s d 15 × SumTooBig (lower s d) (top s d))
-  addition-6 = of-two 15 sumOf SumTooBig (literals .4) (λ x y bx by. sum-too-big x y (bx .b1<) (by .b1<))
+  addition-6 = of-two 15 sumOf SumTooBig (literals .5) (λ x y bx by. sum-too-big x y (bx .b1<) (by .b1<))
 
   -- subtract: so of the first and the negated second
   pub subtraction-6 : (operateOf s d 3 .0 .report ≡ 6) ↔ (Passed s d 3 × SumTooBig (lower s d) (negated (top s d)))
@@ -69,8 +76,8 @@ module _ (s : List ℕ) (b : AreBytes s) (d : ℕ) where
       × ¬ (operateOf s d 58 .0 .report ≡ 6)
       × ¬ (operateOf s d 61 .0 .report ≡ 6)
   never-6 = (
-    of-one 27 _ (literals .5) (λ x c. (negated x, refl)),
-    of-one 39 _ (literals .6) int-done,
-    of-one 58 _ (literals .8) (λ x c. (truncated x, refl)),
-    of-one 61 _ (literals .9) (λ x c. (restacked x, refl)),
+    of-one 27 _ (literals .6) (λ x c. (negated x, refl)),
+    of-one 39 _ (literals .7) int-done,
+    of-one 58 _ (literals .9) (λ x c. (truncated x, refl)),
+    of-one 61 _ (literals .10) (λ x c. (restacked x, refl)),
   )

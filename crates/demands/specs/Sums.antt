@@ -1,4 +1,4 @@
--- Document 01's sums, by computation: the starred rows, together, the other rows with the edges of the rules, and the worked run. Each row is an
+-- Document 01's sums, by computation: the starred rows, together, the other rows with the edges of the rules, multiplication's, and the worked run. Each row is an
 -- operation on a stack of its own.
 use Prim.Native.Nat.{ℕ}
 use mathlib.Core.Path.{_≡_, refl}
@@ -10,9 +10,11 @@ use Rattle.number.specs.Value.{shortValue}
 use Rattle.number.specs.Restack.{restacked, fullOfShort}
 use Rattle.number.specs.Negate.{negated}
 use Rattle.truncation.specs.Truncate.{truncated, truncatedFull, taken65536}
+use Rattle.ending.specs.declared.answer.Answer.the-variants.{Done}
 use Rattle.ending.specs.Ending.{normal, closed, ended}
 use Rattle.division.specs.Rounds.{tried, rounds}
 use Rattle.division.specs.Division.{fullQuotient, restackedQuotient, quotientOf}
+use Rattle.multiplication.specs.Multiplication.{fullProduct, restackedProduct, productOf}
 use Rattle.addition.specs.Addition.{aligned, endedSum, alignedSum, fullRoute, shortRoute, sumOf, differenceOf}
 use Rattle.truncation.specs.Int.{intOf}
 use Rattle.slots.specs.declared.outcome.Outcome.{Outcome}
@@ -49,7 +51,7 @@ turns l x z = record { stack = bytesOf x; depth = 1; literal = l; leaves = (reco
 abbrev pub Hold : List Case → Type 0
 Hold cs = map (λ (c : Case). operateOf (c .stack) (c .depth) (c .literal)) cs ≡ map (λ (c : Case). c .leaves) cs
 
--- 5 divides, 15 adds, 27 negates, 39 is int, 58 truncates, 61 re-stacks.
+-- 4 multiplies, 5 divides, 15 adds, 27 negates, 39 is int, 58 truncates, 61 re-stacks.
 abbrev pub starred : List Case
 starred =
     gives 5 (bytes 0x81 0 0 0 0) (bytes 0x84 0x20 0 0 0) (bytes 0x7D 0x4C 0xCC 0xCC 0xCC)
@@ -106,6 +108,42 @@ edges =
     ∷ turns 27 (bytes 0 0xFF 0x01 0 0x05) (bytes 0 0 0xFF 0xFF 0)
     ∷ []
 
+-- Document 02, A1: 256 times 255 and 256 times 256, and the edges: 65,536 is not short; odd and zero; halves up in both cases of P, and up to a carry; E of 1, 0 and below,
+-- with a carry that comes too late; the exponent bytes' sums 383, 384 and 385, and P at and just below 2^63 - 2^30.
+abbrev pub multiplied : List Case
+multiplied =
+    gives 4 (bytes 0 0 0 0x01 0) (bytes 0 0 0xFF 0 0) (bytes 0 0 0 0xFF 0)
+    ∷ gives 4 (bytes 0 0 0 0x01 0) (bytes 0 0 0 0x01 0) (bytes 0x91 0 0 0 0)
+    ∷ gives 4 (bytes 0 0xFF 0 0xFF 0) (bytes 0 0 0 0x01 0) (bytes 0x91 0x80 0 0 0)
+    ∷ gives 4 (bytes 0 0xFF 0x01 0xFF 0) (bytes 0 0xFF 0xFF 0xFE 0) (bytes 0 0 0xFF 0xFF 0)
+    ∷ gives 4 (bytes 0 0 0xFF 0xFF 0) (bytes 0 0xFF 0xFF 0xFF 0) (bytes 0 0xFF 0x01 0 0)
+    ∷ gives 4 (bytes 0 0xFF 0xFD 0xFF 0) (bytes 0 0 0x05 0 0x07) (bytes 0 0xFF 0xF1 0xFF 0)
+    ∷ gives 4 (bytes 0 0xFF 0 0 0x09) (bytes 0 0 0x05 0 0) zeros
+    ∷ gives 4 (bytes 0 0xFF 0 0 0) (bytes 0x81 0 0 0 0) zeros
+    ∷ gives 4 zeros (bytes 0 0xFF 0xFB 0xFF 0) zeros
+    ∷ gives 4 (bytes 0 0 0 0 0x05) (bytes 0xFF 0x7F 0xFF 0xFF 0xFF) zeros
+    ∷ gives 4 (bytes 0 0 0x01 0 0) (bytes 0x81 0 0 0 0) (bytes 0x81 0 0 0 0)
+    ∷ gives 4 (bytes 0 0 0xFF 0xFF 0) (bytes 0 0 0xFF 0xFF 0) (bytes 0xA0 0x7F 0xFE 0 0x01)
+    ∷ gives 4 (bytes 0x81 0 0 0 0x01) (bytes 0x81 0x40 0 0 0) (bytes 0x81 0x40 0 0 0x02)
+    ∷ gives 4 (bytes 0x81 0x40 0 0 0x02) (bytes 0x81 0x40 0 0 0) (bytes 0x82 0x10 0 0 0x02)
+    ∷ gives 4 (bytes 0x80 0 0x10 0x02 0) (bytes 0x80 0x7F 0xE0 0 0) (bytes 0x80 0 0 0 0)
+    ∷ gives 4 (bytes 0x41 0 0 0 0) (bytes 0x41 0x80 0 0 0) (bytes 0x01 0x80 0 0 0)
+    ∷ gives 4 (bytes 0x41 0 0 0 0) (bytes 0x40 0x80 0 0 0) (bytes 0x01 0x80 0 0 0)
+    ∷ gives 4 (bytes 0x41 0 0x10 0x02 0) (bytes 0x40 0x7F 0xE0 0 0) (bytes 0x01 0 0 0 0)
+    ∷ gives 4 (bytes 0x40 0 0x10 0x02 0) (bytes 0x40 0x7F 0xE0 0 0) zeros
+    ∷ gives 4 (bytes 0xC0 0x7F 0xFF 0xFF 0xFF) (bytes 0xBF 0x7F 0xFF 0xFF 0xFF) (bytes 0xFF 0x7F 0xFF 0xFF 0xFE)
+    ∷ gives 4 (bytes 0xC0 0 0x0D 0x46 0x1E) (bytes 0xC0 0x7F 0xE5 0x76 0x84) (bytes 0xFF 0x7F 0xFF 0xFF 0xFF)
+    ∷ refuses 4 (bytes 0xC0 0 0x10 0x02 0) (bytes 0xC0 0x7F 0xE0 0 0) 6
+    ∷ refuses 4 (bytes 0xC0 0xC0 0 0 0) (bytes 0xC0 0x40 0 0 0) 6
+    ∷ refuses 4 (bytes 0xC1 0 0 0 0) (bytes 0xC0 0 0 0 0) 6
+    ∷ []
+
+-- its two products, on the definition alone
+abbrev pub Worked : Type 0
+Worked =
+    (productOf (bytes 0 0 0 0x01 0) (bytes 0 0 0xFF 0 0) ≡ Done (bytes 0 0 0 0xFF 0))
+    × (productOf (bytes 0 0 0 0x01 0) (bytes 0 0 0 0x01 0) ≡ Done (bytes 0x91 0 0 0 0))
+
 -- "A run whole: bench of 10 bytes holding 00 00 06 00 00 00 00 02 00 00, depth 2, literals 5, 49, 49. [..] Answer: report 4, position 2, depth 2,
 -- bench 82 40 00 00 00 twice."
 abbrev pub WorkedRun : Type 0
@@ -113,13 +151,13 @@ WorkedRun =
     runOf (0 ∷ 0 ∷ 6 ∷ 0 ∷ 0 ∷ 0 ∷ 0 ∷ 2 ∷ 0 ∷ 0 ∷ []) 2 (5 ∷ 49 ∷ 49 ∷ [])
     ≡ (record { report = 4; position = 2; depth = 2 }, 0x82 ∷ 0x40 ∷ 0 ∷ 0 ∷ 0 ∷ 0x82 ∷ 0x40 ∷ 0 ∷ 0 ∷ 0 ∷ [])
 
-computed : Hold starred × Hold unstarred × Hold edges × WorkedRun
+computed : Hold starred × Hold unstarred × Hold edges × Hold multiplied × Worked × WorkedRun
 unfolding
     runOf goOn operateOf settled reportOf bytesAfter stored slot putSlot bytesOf numberIn overLimits tooManyLiterals notInTable noRoom noRoomFor
     malformed malformedOperand isTooBig tooBig operationOf takes leaves rowOf quotientOf restackedQuotient fullQuotient tried rounds normal closed ended
     restacked fullOfShort formOf leadingZeros sumOf shortRoute fullRoute alignedSum endedSum aligned shortValue truncated truncatedFull taken65536
-    intOf differenceOf negated passesZeroTest
-computed = (refl, refl, refl, refl)
+    intOf differenceOf negated passesZeroTest productOf restackedProduct fullProduct
+computed = (refl, refl, refl, refl, (refl, refl), refl)
 
 pub starred-hold : Hold starred
 starred-hold = computed .0
@@ -130,5 +168,11 @@ unstarred-hold = computed .1
 pub edges-hold : Hold edges
 edges-hold = computed .2
 
+pub multiplied-hold : Hold multiplied
+multiplied-hold = computed .3
+
+pub products-worked : Worked
+products-worked = computed .4
+
 pub worked-run : WorkedRun
-worked-run = computed .3
+worked-run = computed .5

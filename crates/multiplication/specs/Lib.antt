@@ -1,3 +1,5 @@
 pub mod Multiplication
 pub mod MultiplicationLaws
 pub mod ShortProduct
+pub mod Rounding
+pub mod RoundingLaws

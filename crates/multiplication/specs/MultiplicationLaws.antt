@@ -1,6 +1,6 @@
 -- Multiplication's laws: a law for each way through the definition, and the mantissa and exponent as the code finds them.
 use mathlib.Core.Path.{_≡_, refl, sym, _∙_, ap, ap₂}
-use mathlib.Core.Bool.{Bool, true, false, cond}
+use mathlib.Core.Bool.{Bool, true, false, cond, and-eq-true-iff}
 use Prim.Native.Nat.{ℕ, _+_, _*_, _-_, _^_, _/_, _%_, _≤_, _<_}
 use native.Mathlib.Nat.{mul-le-mul}
 use native.Mathlib.Omega.{arith}
@@ -17,6 +17,9 @@ use Rattle.division.specs.Operand.{IsFull}
 use Rattle.multiplication.specs.Multiplication.{bothShort, shortProduct, shortStored, signOfTwo, taken, productMantissa, carried, endedProduct, fullProduct, restackedProduct, productOf}
 
 -- ---- the ways through
+
+pub both-zero : (x y : Number) → bothShort x y ≡ true → (x .b1 ≡ 0) × (y .b1 ≡ 0)
+both-zero x y h = let p = and-eq-true-iff (eqb (x .b1) 0) (eqb (y .b1) 0) .0 h in (eqb-true _ _ (p .0), eqb-true _ _ (p .1))
 
 module _ (x y : Number) where
   pub product-short : x .b1 ≡ 0 → y .b1 ≡ 0 → shortProduct x y ≤ 65535 → productOf x y ≡ Done (shortStored (signOfTwo x y) (shortProduct x y))

@@ -83,3 +83,9 @@ pub restacked-zero : (x : Number) → Bytes x → restacked x .b1 ≡ 0 → rest
 restacked-zero x b =
     by-cases (λ (y : Number). y .b1 ≡ 0 → y ≡ zeros) x (λ p e. absurd (p e)) (λ e. refl)
     (λ q e. absurd (omega (arith, full-of-short (sign x) (shortMagnitude x) (omega arith) q (magnitude-lt x) .low-exponent)))
+
+-- re-stacking keeps the sign of what does not count as zero
+pub restacked-sign : (x : Number) → Bytes x → ¬ (restacked x ≡ zeros) → sign (restacked x) ≡ sign x
+restacked-sign x b =
+    by-cases (λ (y : Number). ¬ (y ≡ zeros) → sign y ≡ sign x) x (λ p n. refl) (λ n. absurd (n refl))
+    (λ q n. full-of-short (sign x) (shortMagnitude x) (omega arith) q (magnitude-lt x) .signs)

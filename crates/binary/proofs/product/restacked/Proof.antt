@@ -1,18 +1,13 @@
 -- `restacked` meets its contract: the answer is the product of the numbers re-stacked.
 use borrow.Author.Needs.{needs}
 use Prim.Native.Nat.{ℕ}
-use mathlib.Core.Path.{_≡_, refl, sym, _∙_, ap, ap₂}
-use mathlib.Core.Bool.{true, _||_}
-use mathlib.Core.List.{List}
-use Rattle.number.specs.Number.{malformed}
+use mathlib.Core.Path.{refl, sym, _∙_, ap, ap₂}
 use Rattle.number.specs.Operand.{packed-byte}
 use Rattle.multiplication.specs.Multiplication.{productOf, restackedProduct}
 use Rattle.multiplication.specs.MultiplicationLaws.{product-restacked}
-use Rattle.slots.specs.Reach.{numberAt}
-use Rattle.literals.specs.Operate.{outcome, operateOf}
-use Rattle.literals.specs.WayLaws.{two-malformed}
+use Rattle.literals.specs.Operate.{operateOf}
 use Rattle.binary.specs.Stored.{storedOf, two-stored}
-use Rattle.binary.specs.Product.{Pair, product-line, pair-malformed}
+use Rattle.binary.specs.Product.{product-line, pair-malformed}
 use Rattle.binary.proofs.product.restacked.Statement.{statement}
 use Rattle.binary.proofs.product.restacked.Tie as tie
 

@@ -1,7 +1,7 @@
 -- `shorts` meets its contract: what `short_product` answers is the product of the two.
 use borrow.Author.Needs.{needs}
 use Prim.Native.Nat.{ℕ, _+_, _-_}
-use mathlib.Core.Path.{_≡_, refl, sym, _∙_, ap, ap₂, subst₂}
+use mathlib.Core.Path.{_≡_, sym, _∙_, ap, ap₂, subst₂}
 use mathlib.Core.List.{List}
 use native.Mathlib.Nat.{mod-eq-of-lt}
 use native.Mathlib.Omega.{arith}
@@ -9,7 +9,7 @@ use Rattle.number.specs.declared.Number.{Number}
 use Rattle.number.specs.Number.{number}
 use Rattle.multiplication.specs.Multiplication.{productOf}
 use Rattle.multiplication.specs.ShortProduct.{Multiplied}
-use Rattle.slots.specs.Reach.{numberAt, putAt}
+use Rattle.slots.specs.Reach.{numberAt}
 use Rattle.slots.specs.ReachLaws.{has}
 use Rattle.literals.specs.Operate.{outcome, operateOf}
 use Rattle.literals.specs.WayLaws.{two-done}

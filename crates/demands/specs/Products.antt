@@ -1,0 +1,116 @@
+-- Document 02, A1: what it asks to be shown of multiplication, and what the digits are, of literal 4's own report, depth and bytes on a stack.
+use Prim.Native.Nat.{ℕ, zero, suc, _+_, _-_, _*_, _≤_, _<_}
+use mathlib.Core.Path.{_≡_, refl, sym, _∙_, ap, ap₂, subst⁻¹}
+use mathlib.Core.Logic.{_↔_}
+use mathlib.Core.Bool.{_||_, or-comm}
+use mathlib.Core.List.{List}
+use native.Mathlib.Omega.{arith}
+use lib.ListN.{length, getD}
+use Rattle.number.specs.declared.Number.{Number}
+use Rattle.number.specs.Number.{malformed, mantissa}
+use Rattle.number.specs.Restack.{restacked, CountsAsZero}
+use Rattle.multiplication.specs.Multiplication.{signOfTwo, taken, productOf}
+use Rattle.multiplication.specs.Rounding.{Overflows, Product, Products}
+use Rattle.multiplication.specs.RoundingLaws.{products, product-commutes}
+use Rattle.slots.specs.declared.outcome.Outcome.{Outcome}
+use Rattle.slots.specs.Slots.{slot, numberIn, bytesOf, lower, top}
+use Rattle.slots.specs.Reports.{overLimits}
+use Rattle.slots.specs.Push.{settled}
+use Rattle.literals.specs.Literals.{rowOf, operationOf, takes, leaves}
+use Rattle.literals.specs.Reports.{notInTable, noRoomFor, malformedOperand, tooBig, reportOf}
+use Rattle.literals.specs.Operate.{bytesAfter, operateOf}
+use Rattle.demands.specs.Accepted.{Passed}
+use Rattle.demands.specs.Bytes.{AreBytes, operand-bytes}
+use Rattle.demands.specs.Demand1.{operation-report}
+use Rattle.demands.specs.Demand2.{literals, after-two}
+use Rattle.demands.specs.Answered.{answered}
+use Rattle.demands.specs.Report6.{multiplication-6}
+
+-- two well-formed operands of literal 4 that no report before 6 refuses, neither counting as zero: a malformed one is report 3
+pub record Multiplies (s : List ℕ) (d : ℕ) : Type 0 where
+  pub bytes : AreBytes s
+  pub passed : Passed s d 4
+  pub first : ¬ CountsAsZero (lower s d)
+  pub second : ¬ CountsAsZero (top s d)
+
+module _ (s : List ℕ) (d : ℕ) where
+  -- "the re-stacked exponent bytes", and "the product of the mantissas"
+  abbrev pub A : ℕ
+  A = restacked (lower s d) .b1
+
+  abbrev pub B : ℕ
+  B = restacked (top s d) .b1
+
+  abbrev pub P : ℕ
+  P = mantissa (restacked (lower s d)) * mantissa (restacked (top s d))
+
+  -- what literal 4 gives: report and depth, and the bytes of the stack
+  abbrev pub multiplied : Outcome × List ℕ
+  multiplied = operateOf s d 4
+
+  pub record LeftProduct : Type 0 where
+    pub report : multiplied .0 .report ≡ 0
+    pub depth : multiplied .0 .depth ≡ d - 1
+    pub result : Product A B P (signOfTwo (lower s d) (top s d)) (numberIn (multiplied .1) (d - 2))
+    pub long : length (multiplied .1) ≡ length s
+    pub elsewhere : (k : ℕ) → (5 * (d - 2) ≤ k → k < 5 * (d - 2) + 5 → ⊥) → getD (multiplied .1) k 0 ≡ getD s k 0
+
+  -- E, before the rounding, is any natural number that makes A + B with 128 or 129; below 0 there is none.
+  pub record ProductOnStack : Type 0 where
+    -- "a pair overflows exactly when the re-stacked exponent bytes sum to more than 384, or to 384 with P at least 2^63 - 2^30"
+    pub report6 : (multiplied .0 .report ≡ 6) ↔ Overflows A B P
+    pub left : (E : ℕ) → E + taken P ≡ A + B → 1 ≤ E → ¬ Overflows A B P → LeftProduct
+
+module _ (s : List ℕ) (d : ℕ) (h : Multiplies s d) where
+  clauses : Products (A s d) (B s d) (P s d) (signOfTwo (lower s d) (top s d)) (productOf (lower s d) (top s d))
+  unfolding takes rowOf
+  clauses =
+      products (lower s d) (top s d) (operand-bytes s d 4 2 (h .bytes) (h .passed) (omega arith) (omega arith))
+      (operand-bytes s d 4 1 (h .bytes) (h .passed) (omega arith) (omega arith)) (h .first) (h .second)
+
+  pub product-on-stack : ProductOnStack s d
+  product-on-stack =
+      let six = multiplication-6 s (h .bytes) d in
+      record {
+        report6 = ((λ r. six .0 r .1 .2), (λ o. six .1 (h .passed, (h .first, h .second, o))));
+        left = λ E is one fit.
+            let r = clauses .result E is one fit in
+            let a = answered s d 4 productOf (literals .3) (h .passed) (r .0) (r .1) in
+            record {
+              report = a .report;
+              depth = a .depth;
+              result = subst⁻¹ (Product (A s d) (B s d) (P s d) (signOfTwo (lower s d) (top s d))) (a .there) (r .2);
+              long = a .long;
+              elsewhere = a .elsewhere;
+            };
+      }
+
+-- report and depth do not go by the bytes
+outcome-alone : (r d d′ : ℕ) (s s′ t t′ : List ℕ) → settled r d s d′ t .0 ≡ settled r d s′ d′ t′ .0
+unfolding settled
+outcome-alone zero d d′ s s′ t t′ = refl
+outcome-alone (suc k) d d′ s s′ t t′ = refl
+
+-- "Multiplication commutes", bytes and report: with the two operands in each other's place, the report, the depth and the result's five bytes are the same.
+module _ (s s′ : List ℕ) (d : ℕ) (long : length s ≡ length s′) (first : lower s d ≡ top s′ d) (second : top s d ≡ lower s′ d) where
+  same-answer : productOf (lower s d) (top s d) ≡ productOf (lower s′ d) (top s′ d)
+  same-answer = ap₂ productOf first second ∙ product-commutes (top s′ d) (lower s′ d)
+
+  same-report : reportOf s d 4 ≡ reportOf s′ d 4
+  unfolding reportOf operationOf rowOf notInTable noRoomFor malformedOperand tooBig overLimits
+  same-report =
+      let forms = ap₂ (λ (x y : Number). malformed x || malformed y) first second ∙ or-comm (malformed (top s′ d)) (malformed (lower s′ d)) in
+      simp (long, forms, same-answer)
+
+  pub commutes-outcome : operateOf s d 4 .0 ≡ operateOf s′ d 4 .0
+  unfolding operateOf
+  commutes-outcome = ap (λ (r : ℕ). settled r d s (d - takes 4 + leaves 4) (bytesAfter (operationOf 4) s d) .0) same-report ∙ outcome-alone (reportOf s′ d 4) _ _ _ _ _ _
+
+  pub commutes-bytes : operateOf s d 4 .0 .report ≡ 0 → slot (operateOf s d 4 .1) (d - 2) ≡ slot (operateOf s′ d 4 .1) (d - 2)
+  commutes-bytes r =
+      let ok : reportOf s d 4 ≡ 0 = sym (operation-report s d 4) ∙ r in
+      let ok′ : reportOf s′ d 4 ≡ 0 = sym same-report ∙ ok in
+      let a = after-two s d 4 ok productOf (literals .3) in
+      let b = after-two s′ d 4 ok′ productOf (literals .3) in
+      let same : a .0 ≡ b .0 = cc (a .1, b .1, same-answer) in
+      a .2 .there ∙ ap bytesOf same ∙ sym (b .2 .there)
