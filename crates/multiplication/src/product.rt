@@ -3,7 +3,8 @@ use ending::Answer;
 use number::Number;
 ghost use mathlib.Core.Path.{_≡_};
 ghost use Prim.Native.Nat.{ℕ, _^_, _/_, _%_};
-ghost use Rattle.number.specs.Number.{number, low, fullOf};
+ghost use Rattle.number.specs.Number.{number, zeros, low, fullOf};
+ghost use Rattle.ending.specs.declared.answer.Answer.the-variants.{Done};
 ghost use Rattle.multiplication.specs.Multiplication.{restackedProduct};
 ghost use Rattle.multiplication.specs.MultiplicationLaws.{topped as toppedOf};
 ghost use Rattle.multiplication.specs.ShortProduct.{Multiplied};
@@ -60,6 +61,12 @@ pub fn short_product(b: u32, h: u16, c: u32, k: u16) -> Product
     }
 }
 
+fn zero() -> Answer
+    ensures { λ r. ⌜ r ≡ Done zeros ⌝ }
+{
+    Answer::Done(Number { b1: 0, word: 0 })
+}
+
 // P from its top bit on. Whether that is 2^63 is as good as random: the compiler selects, and no branch goes by it.
 fn topped(p: u64) -> u64
     ensures { λ r. ⌜ r ≡ toppedOf p ⌝ }
@@ -77,10 +84,10 @@ pub fn multiplication(s: u32, m: u32, e: u32, t: u32, n: u32, f: u32) -> Answer
     let first = e % 256;
     let second = f % 256;
     if first == 0 {
-        return Answer::Done(Number { b1: 0, word: 0 });
+        return zero();
     }
     if second == 0 {
-        return Answer::Done(Number { b1: 0, word: 0 });
+        return zero();
     }
     let p = ((m % 2147483648) as u64 + 2147483648) * ((n % 2147483648) as u64 + 2147483648);
     let sign = (s ^ t) / 2147483648;

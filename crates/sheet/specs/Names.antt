@@ -21,12 +21,13 @@ laterOf s =
     (ifNamed s (ascii "re-stack") 61
     256))))
 
--- the first five names, and else those
+-- the first six names, and else those
 unfoldable pub literalOf : List ℕ → ℕ
 literalOf s =
     ifNamed s (ascii "exchange") 1
     (ifNamed s (ascii "delete") 2
     (ifNamed s (ascii "subtract") 3
+    (ifNamed s (ascii "multiply") 4
     (ifNamed s (ascii "divide") 5
     (ifNamed s (ascii "add") 15
-    (laterOf s)))))
+    (laterOf s))))))

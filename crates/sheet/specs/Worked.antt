@@ -53,6 +53,7 @@ lines =
     ∷ row "literal 61" (Literal 61)
     ∷ row "literal 255" (Literal 255)
     ∷ row "literal 256" (Unreadable BadLiteral)
+    ∷ row "multiply" (Literal 4)
     ∷ row "re-stack" (Literal 61)
     ∷ row "add 5" (Unreadable NoStep)
     ∷ row "Add" (Unreadable NoStep)

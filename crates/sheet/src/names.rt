@@ -32,7 +32,8 @@ pub(crate) fn literal_of(text: &[u8]) -> u16
     let r27 = later(text);
     let r15 = if_named(text, b"add", 15, r27);
     let r5 = if_named(text, b"divide", 5, r15);
-    let r3 = if_named(text, b"subtract", 3, r5);
+    let r4 = if_named(text, b"multiply", 4, r5);
+    let r3 = if_named(text, b"subtract", 3, r4);
     let r2 = if_named(text, b"delete", 2, r3);
     if_named(text, b"exchange", 1, r2)
 }

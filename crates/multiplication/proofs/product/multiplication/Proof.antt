@@ -67,8 +67,10 @@ pub multiplication-spec : {M : Type 1} → statement M
 multiplication-spec =
     tie.close
     (tie.spec
-    (λ c. sym (zero-first _ _ (c .if1 .taken)))
-    (λ c. sym (zero-second _ _ (c .before .if1 .left) (c .if2 .taken)))
+    (λ c κs. tt)
+    (λ c. c .zero .ensures ∙ sym (zero-first _ _ (c .before .if1 .taken)))
+    (λ c κs. tt)
+    (λ c. c .zero2 .ensures ∙ sym (zero-second _ _ (c .before .before .if1 .left) (c .before .if2 .taken)))
     (λ c. search needs)
     (λ c. search needs)
     (λ c. search needs)

@@ -20,4 +20,6 @@ literal-of-spec =
     (λ c κs. tt)
     (λ c. refl)
     (λ c κs. tt)
-    (λ c. simp (c .if-named5 .ensures, c .before .before .if-named4 .ensures, c .before .before .before .before .if-named3 .ensures, c .before .before .before .before .before .before .if-named2 .ensures, c .before .before .before .before .before .before .before .before .if-named .ensures, c .before .before .before .before .before .before .before .before .before .before .later .ensures)))
+    (λ c. refl)
+    (λ c κs. tt)
+    (λ c. simp (c .if-named6 .ensures, c .before .before .if-named5 .ensures, c .before .before .before .before .if-named4 .ensures, c .before .before .before .before .before .before .if-named3 .ensures, c .before .before .before .before .before .before .before .before .if-named2 .ensures, c .before .before .before .before .before .before .before .before .before .before .if-named .ensures, c .before .before .before .before .before .before .before .before .before .before .before .before .later .ensures)))
