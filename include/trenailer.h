@@ -21,7 +21,7 @@
  *     2        fewer numbers on the stack than the literal takes
  *     3        an operand is malformed; the pushed bytes are not five, or are malformed
  *     4        no room for a push or a duplicate
- *     5        not one of the ten literals
+ *     5        not one of the eleven literals
  *     6        number too big: a divisor that counts as zero, or an exponent byte above 255
  *
  * They are asked in the order 1, 5, 2, 4, 3, 6, and the first that holds is given.
@@ -62,13 +62,14 @@ enum {
 };
 
 /*
- * The ten literals. Of two numbers the lower one is the first (6, then 2, then divide leaves 3), and the result stands in its slot; the
- * slot above it keeps its bytes. Exchange, delete and duplicate don't look at a number's form.
+ * The eleven literals. Of two numbers the lower one is the first (6, then 2, then divide leaves 3), and the result stands in its slot;
+ * the slot above it keeps its bytes. Exchange, delete and duplicate don't look at a number's form.
  */
 enum {
     TRENAILER_EXCHANGE = 1,   /* takes 2, leaves 2: swaps them */
     TRENAILER_DELETE = 2,     /* takes 1, leaves 0 */
     TRENAILER_SUBTRACT = 3,   /* takes 2, leaves 1: the first less the second */
+    TRENAILER_MULTIPLY = 4,   /* takes 2, leaves 1 */
     TRENAILER_DIVIDE = 5,     /* takes 2, leaves 1: the first by the second */
     TRENAILER_ADD = 15,       /* takes 2, leaves 1 */
     TRENAILER_NEGATE = 27,    /* takes 1, leaves 1 */

@@ -34,11 +34,12 @@ LITERALS_MAX = 60_000
 
 
 class Literal(IntEnum):
-    """The ten literals."""
+    """The eleven literals."""
 
     EXCHANGE = 1
     DELETE = 2
     SUBTRACT = 3
+    MULTIPLY = 4
     DIVIDE = 5
     ADD = 15
     NEGATE = 27

@@ -77,7 +77,7 @@ class Sheets(unittest.TestCase):
         self.assertEqual(calc(b"push 6\npush 4\ndivide\n"), (0, b"0 1 00 00 06 00 00\n0 2 00 00 04 00 00\n0 1 81 40 00 00 00\n", b""))
 
     def test_a_refused_step_is_an_answer(self):
-        self.assertEqual(calc(b"divide\nliteral 4\npush 0\n"), (0, b"2 0 -\n5 0 -\n0 1 00 00 00 00 00\n", b""))
+        self.assertEqual(calc(b"divide\nliteral 6\npush 0\n"), (0, b"2 0 -\n5 0 -\n0 1 00 00 00 00 00\n", b""))
 
     def test_a_slip_ends_it(self):
         self.assertEqual(calc(SLIP), (1, STOPPED, WHY))
@@ -134,7 +134,7 @@ class Files(unittest.TestCase):
         self.assertIn(b"\n  calc ", out)
         for command in ('"$T" --help', '"$T" -h', '"$T" install --help'):
             self.assertEqual(shell(command), (0, out, b""), command)
-        for program, words in (("calc", (b"push N", b"re-stack")), ("vectors", (b"LENGTH:HEX*",))):
+        for program, words in (("calc", (b"push N", b"multiply", b"re-stack")), ("vectors", (b"LENGTH:HEX*",))):
             status, more, err = shell(f'"$T" {program} --help')
             self.assertEqual((status, err), (0, b""))
             for word in words:

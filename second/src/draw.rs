@@ -1,6 +1,7 @@
 //! Numbers, stacks and literals drawn so that interesting things happen often.
 
-use crate::reference::literals::ALL;
+use crate::reference::literals::{self, ALL};
+use crate::reference::number::re_stack;
 use crate::rng::Rng;
 use crate::Bytes;
 
@@ -129,13 +130,70 @@ pub fn beside(rng: &mut Rng, x: Bytes) -> Bytes {
     number(exponent, close ^ (rng.word() & 0x8000_0000))
 }
 
-/// So many slots, neighbours near one another, and up to four stray bytes.
+/// A number whose product with another is at an edge of A1's rules: whole numbers about 65,536,
+/// exponent bytes that add up to about 128, where a product is too small, or 384, where it is
+/// too big, and a mantissa's product about 2^63 or a half over.
+pub fn factor(rng: &mut Rng, x: Bytes) -> Bytes {
+    if literals::malformed(x) || re_stack(x)[0] == 0 {
+        return any(rng);
+    }
+    if x[0] == 0 && !rng.one_in(4) {
+        return short_factor(rng, x);
+    }
+    let [exponent, b2, b3, b4, b5] = re_stack(x);
+    let sum = match rng.below(3) {
+        0 => 126 + rng.below(6),
+        1 => 381 + rng.below(6),
+        // The one that the other's exponent byte can reach.
+        _ if exponent < 128 => 128 + rng.below(2),
+        _ => 383 + rng.below(2),
+    };
+    let other = (sum as i32 - i32::from(exponent)).clamp(1, 255);
+    let mantissa = u32::from_be_bytes([b2, b3, b4, b5]) | 0x8000_0000;
+    let word = match rng.below(5) {
+        0 => quotient(rng, 1 << 63, mantissa),
+        1 => quotient(rng, (1 << 63) - (1 << 30), mantissa),
+        2 => half(rng, mantissa),
+        3 => rng.pick(&[0, 1, 0x7FFF_FFFE, 0x7FFF_FFFF]),
+        _ => word(rng),
+    };
+    number(other as u8, word & 0x7FFF_FFFF | rng.word() & 0x8000_0000)
+}
+
+/// A short number whose product with another has a magnitude of about 65,536.
+fn short_factor(rng: &mut Rng, x: Bytes) -> Bytes {
+    let low_half = i32::from(x[2]) + 256 * i32::from(x[3]);
+    let magnitude = if x[1] == 0 {
+        low_half
+    } else {
+        65_536 - low_half
+    };
+    let near = (65_536 / magnitude + rng.below(4) as i32 - 2).clamp(0, 65_535);
+    short(if rng.one_in(2) { -near } else { near }, fifth(rng))
+}
+
+/// About `product` by a mantissa.
+fn quotient(rng: &mut Rng, product: u64, mantissa: u32) -> u32 {
+    (product / u64::from(mantissa) + rng.below(4) - 1).min(0xFFFF_FFFF) as u32
+}
+
+/// A mantissa whose product with another has 30 or 31 zeros at its end, and a one before them.
+fn half(rng: &mut Rng, mantissa: u32) -> u32 {
+    let zeros = 30 + rng.below(2) as u32;
+    (rng.word() | 1) << zeros.saturating_sub(mantissa.trailing_zeros())
+}
+
+/// So many slots, neighbours near one another or of a product at an edge, and up to four stray
+/// bytes.
 pub fn stack(rng: &mut Rng, slots: usize) -> Vec<u8> {
     let mut bytes = Vec::with_capacity(5 * slots + 4);
     let mut last = any(rng);
     for _ in 0..slots {
         bytes.extend(last);
-        last = beside(rng, last);
+        last = match rng.below(4) {
+            0 => factor(rng, last),
+            _ => beside(rng, last),
+        };
     }
     for _ in 0..rng.below(5) {
         bytes.push(rng.byte());

@@ -1,5 +1,5 @@
-//! The second program: document 01's arithmetic, written from the papers and not from the
-//! Rattle code, to make test vectors and to compare with.
+//! The second program: document 01's arithmetic and A1's multiplication, written from the
+//! papers and not from the Rattle code, to make test vectors and to compare with.
 
 pub mod case;
 #[cfg(feature = "native")]

@@ -79,11 +79,30 @@ fn every_exponent_with_the_words_at_the_edges() {
                     }
                     for other in EXPONENTS {
                         let pair = [x, draw::number(other, !word)].concat();
-                        for literal in [3, 5, 15] {
+                        for literal in [3, 4, 5, 15] {
                             held_to_the_reference(&pair, 2, literal);
                         }
                     }
                 }
+            }
+        }
+    }
+}
+
+#[test]
+fn products_at_the_edges() {
+    let mut rng = Rng::new(4);
+    for _ in 0..500_000 {
+        let first = draw::well_formed(&mut rng);
+        let pair = [first, draw::factor(&mut rng, first)].concat();
+        held_to_the_reference(&pair, 2, 4);
+        run_held_to_the_reference(&pair, 2, &[4]);
+    }
+    for a in 0..=258 {
+        for b in (0..=258).chain([21_845, 32_767, 32_768, 65_534, 65_535]) {
+            for sign in [1, -1] {
+                let pair = [draw::short(sign * a, 9), draw::short(b, 0)].concat();
+                held_to_the_reference(&pair, 2, 4);
             }
         }
     }

@@ -102,7 +102,7 @@ fn literal_takes_a_number_to_255() {
         &["0 1 00 00 07 00 00", "0 2 00 00 07 00 00"],
     );
     answered("literal 000049", &["2 0 -"]);
-    for line in ["literal 0", "literal 4", "literal 62", "literal 255"] {
+    for line in ["literal 0", "literal 6", "literal 62", "literal 255"] {
         answered(line, &["5 0 -"]);
     }
     for line in [
@@ -129,6 +129,7 @@ fn a_name_is_a_literal() {
         ("exchange", 1, "0 2 00 00 06 00 00"),
         ("delete", 2, "0 1 00 00 06 00 00"),
         ("subtract", 3, "0 1 00 00 02 00 00"),
+        ("multiply", 4, "0 1 00 00 18 00 00"),
         ("divide", 5, "0 1 81 40 00 00 00"),
         ("add", 15, "0 1 00 00 0A 00 00"),
         ("negate", 27, "0 2 00 FF FC FF 00"),
@@ -241,7 +242,7 @@ fn other_bytes_are_no_blanks() {
 #[test]
 fn a_refused_step_is_an_answer_and_the_steps_go_on() {
     answered(
-        "add\npush 1\npush 0\ndivide\nliteral 4\ndelete\n",
+        "add\npush 1\npush 0\ndivide\nliteral 6\ndelete\n",
         &[
             "2 0 -",
             "0 1 00 00 01 00 00",

@@ -35,8 +35,9 @@ fn main() -> ExitCode {
 fn compare(count: u64, seed: u64, machine: &mut Machine) -> ExitCode {
     let mut rng = Rng::new(seed);
     let (mut all_agreed, mut all_kept, mut all_differ) = (0, 0, 0);
+    let literals = COMPARED.len() as u64;
     for (i, (literal, name)) in COMPARED.into_iter().enumerate() {
-        let share = count / 7 + u64::from((i as u64) < count % 7);
+        let share = count / literals + u64::from((i as u64) < count % literals);
         let (mut agreed, mut kept, mut differ) = (0, 0, 0);
         for _ in 0..share {
             match one(&mut rng, machine, literal) {

@@ -1,8 +1,9 @@
 //! Plain optimised Rust for the same calls: what the speed of ours is measured against.
-//! Safe Rust with words and machine division, shaped for the fewest instructions where that
-//! is also quick, and the same answers (tests/plain.rs).
+//! Safe Rust with words, machine multiplication and division, shaped for the fewest
+//! instructions where that is also quick, and the same answers (tests/plain.rs).
 
 mod division;
+mod multiplication;
 mod number;
 mod operate;
 mod run;

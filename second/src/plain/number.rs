@@ -77,11 +77,17 @@ impl Short {
         self.value() == -65_536
     }
 
+    /// Without the sign; 0 for odd, which counts as zero.
+    #[inline(always)]
+    pub fn magnitude(self) -> u32 {
+        let flip = self.sign as i32;
+        ((i32::from(self.low) ^ flip) - flip) as u32 & 0xFFFF
+    }
+
     /// The exponent and the mantissa; `None` for zero and odd, which count as zero.
     #[inline(always)]
     pub fn normal(self) -> Option<(i32, u32)> {
-        let flip = self.sign as i32;
-        let magnitude = ((i32::from(self.low) ^ flip) - flip) as u32 & 0xFFFF;
+        let magnitude = self.magnitude();
         if magnitude == 0 {
             cold_path();
             return None;

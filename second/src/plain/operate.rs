@@ -3,6 +3,7 @@
 //! out apart.
 
 use super::division::divide;
+use super::multiplication::multiply;
 use super::number::{negate, re_stack, Slot};
 use super::sum::{add, subtract};
 use super::whole::{int, truncate};
@@ -44,6 +45,7 @@ pub fn operate(stack: &mut [u8], depth: &mut usize, literal: u8) -> u8 {
             }
         }
         3 => two!(subtract_top),
+        4 => two!(multiply_top),
         5 => two!(divide_top),
         15 => two!(add_top),
         27 => one!(negate),
@@ -86,6 +88,7 @@ macro_rules! out_of_line {
     };
 }
 out_of_line!(subtract_top, subtract);
+out_of_line!(multiply_top, multiply);
 out_of_line!(divide_top, divide);
 out_of_line!(add_top, add);
 
@@ -94,7 +97,7 @@ out_of_line!(add_top, add);
 #[inline(never)]
 fn refusal(depth: usize, len: usize, literal: u8) -> u8 {
     let takes = match literal {
-        1 | 3 | 5 | 15 => 2,
+        1 | 3 | 4 | 5 | 15 => 2,
         2 | 27 | 39 | 49 | 58 | 61 => 1,
         _ => 0,
     };

@@ -3,6 +3,7 @@
 
 use super::beyond_limits;
 use super::division::divide;
+use super::multiplication::multiply;
 use super::number::{negate, re_stack, Slot};
 use super::sum::{add, subtract};
 use super::whole::{int, truncate};
@@ -71,6 +72,7 @@ fn step(slots: &mut [Slot], depth: usize, literal: u8) -> (u8, usize) {
             _ => (DONE, depth - 1),
         },
         3 => two!(subtract),
+        4 => two!(multiply),
         5 => two!(divide),
         15 => two!(add),
         27 => one!(negate),

@@ -26,10 +26,18 @@ pub fn ending(negative: bool, digits: i128, places: u32, exponent: i32) -> Optio
                 exponent,
             }))
         }
-        0 => Some(store_full(Scaled {
-            units: sign * pow2(31),
-            exponent: 1,
-        })),
-        _ => Some(ZERO),
+        _ => Some(too_small(negative, exponent)),
     }
+}
+
+/// What an exponent of 0 or below ends in: at 0 the smallest number, below it zero.
+pub fn too_small(negative: bool, exponent: i32) -> Bytes {
+    if exponent < 0 {
+        return ZERO;
+    }
+    let smallest = pow2(31);
+    store_full(Scaled {
+        units: if negative { -smallest } else { smallest },
+        exponent: 1,
+    })
 }

@@ -1,7 +1,9 @@
-//! Document 01, "Literals": each takes numbers off the top and leaves numbers there.
+//! Document 01, "Literals", with A1's multiplication: each takes numbers off the top and leaves
+//! numbers there.
 
 use super::addition::{add, subtract};
 use super::division::divide;
+use super::multiplication::multiply;
 use super::number::{form, negate, re_stack, Form};
 use super::truncation::{int, truncate};
 use crate::Bytes;
@@ -9,6 +11,7 @@ use crate::Bytes;
 pub const EXCHANGE: u8 = 1;
 pub const DELETE: u8 = 2;
 pub const SUBTRACT: u8 = 3;
+pub const MULTIPLY: u8 = 4;
 pub const DIVIDE: u8 = 5;
 pub const ADD: u8 = 15;
 pub const NEGATE: u8 = 27;
@@ -17,15 +20,16 @@ pub const DUPLICATE: u8 = 49;
 pub const TRUNCATE: u8 = 58;
 pub const RE_STACK: u8 = 61;
 
-pub const ALL: [u8; 10] = [
-    EXCHANGE, DELETE, SUBTRACT, DIVIDE, ADD, NEGATE, INT, DUPLICATE, TRUNCATE, RE_STACK,
+pub const ALL: [u8; 11] = [
+    EXCHANGE, DELETE, SUBTRACT, MULTIPLY, DIVIDE, ADD, NEGATE, INT, DUPLICATE, TRUNCATE, RE_STACK,
 ];
 
 /// The ROM's names, in the order of `ALL`.
-pub const NAMES: [&str; 10] = [
+pub const NAMES: [&str; 11] = [
     "exchange",
     "delete",
     "subtract",
+    "multiply",
     "divide",
     "add",
     "negate",
@@ -38,7 +42,7 @@ pub const NAMES: [&str; 10] = [
 /// How many numbers a literal takes; `None` for a byte that is no literal.
 pub fn takes(literal: u8) -> Option<usize> {
     match literal {
-        EXCHANGE | SUBTRACT | DIVIDE | ADD => Some(2),
+        EXCHANGE | SUBTRACT | MULTIPLY | DIVIDE | ADD => Some(2),
         DELETE | NEGATE | INT | DUPLICATE | TRUNCATE | RE_STACK => Some(1),
         _ => None,
     }
@@ -59,6 +63,7 @@ pub fn leaves(literal: u8, taken: &[Bytes]) -> Option<Vec<Bytes>> {
         (EXCHANGE, &[first, second]) => vec![second, first],
         (DELETE, _) => vec![],
         (SUBTRACT, &[first, second]) => vec![subtract(first, second)?],
+        (MULTIPLY, &[first, second]) => vec![multiply(first, second)?],
         (DIVIDE, &[first, second]) => vec![divide(first, second)?],
         (ADD, &[first, second]) => vec![add(first, second)?],
         (NEGATE, &[x]) => vec![negate(x)],

@@ -1,11 +1,13 @@
-//! The second implementation, from document 01: exact whole numbers on i128. The calls
-//! here are its "Reports, and which comes first"; each other module is one of its headings.
+//! The second implementation, from document 01 and A1 of document 02: exact whole numbers on
+//! i128. The calls here are document 01's "Reports, and which comes first"; each other module
+//! is one of its headings, or A1.
 
 pub mod addition;
 pub mod cell;
 pub mod division;
 pub mod ending;
 pub mod literals;
+pub mod multiplication;
 pub mod number;
 pub mod truncation;
 

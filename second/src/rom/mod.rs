@@ -7,15 +7,18 @@ pub mod machine;
 mod z80;
 
 use crate::draw;
-use crate::reference::literals::{self, ADD, DIVIDE, INT, NEGATE, RE_STACK, SUBTRACT, TRUNCATE};
+use crate::reference::literals::{
+    self, ADD, DIVIDE, INT, MULTIPLY, NEGATE, RE_STACK, SUBTRACT, TRUNCATE,
+};
 use crate::rng::Rng;
 use crate::text::hex;
 use crate::Bytes;
 use machine::{Left, Machine};
 
-pub const COMPARED: [(u8, &str); 7] = [
+pub const COMPARED: [(u8, &str); 8] = [
     (ADD, "add"),
     (SUBTRACT, "subtract"),
+    (MULTIPLY, "multiply"),
     (DIVIDE, "divide"),
     (NEGATE, "negate"),
     (INT, "int"),
@@ -36,7 +39,12 @@ fn operands(rng: &mut Rng, literal: u8) -> Vec<Bytes> {
     let first = draw::well_formed(rng);
     let mut all = vec![first];
     if literals::takes(literal) == Some(2) {
-        let second = draw::beside(rng, first);
+        // Of products, half at the edges of A1's rules.
+        let second = if literal == MULTIPLY && rng.one_in(2) {
+            draw::factor(rng, first)
+        } else {
+            draw::beside(rng, first)
+        };
         all.push(if well_formed(&second) {
             second
         } else {
@@ -63,7 +71,7 @@ pub fn one(rng: &mut Rng, machine: &mut Machine, literal: u8) -> Found {
     } else {
         let operands: Vec<String> = operands.iter().map(|b| hex(b)).collect();
         Found::Differs(format!(
-            "{}: the ROM leaves {}, document 01 {}",
+            "{}: the ROM leaves {}, the papers {}",
             operands.join(" "),
             words(found),
             words(expected)

@@ -148,7 +148,7 @@ fn named(rng: &mut Rng, word: &[u8], sign: &str, n: u64) -> Vec<u8> {
 
 /// What people and programs write instead. Most of these lines can't be read.
 fn wrong(rng: &mut Rng) -> Vec<u8> {
-    const LINES: [&str; 48] = [
+    const LINES: [&str; 50] = [
         "0",
         "2",
         "5",
@@ -195,6 +195,8 @@ fn wrong(rng: &mut Rng) -> Vec<u8> {
         "add 5",
         "hello",
         "dividee",
+        "times",
+        "multiplication",
         "restack",
         "re stack",
     ];

@@ -48,7 +48,7 @@ pub fn cases(v: &mut Vectors) {
 fn literals(v: &mut Vectors) {
     v.reason("deep stacks: a literal at every depth from 250 to 300");
     for depth in 250..=300 {
-        let literal = ALL[depth % 10];
+        let literal = ALL[depth % ALL.len()];
         case(v, Call::Operate(literal), depth, sevens(depth + 1, 2));
     }
     v.reason("deep stacks: each literal about the depths 256, 512 and 3,200, with room for one more or none");
@@ -71,7 +71,7 @@ fn malformed(v: &mut Vectors) {
         for slot in [depth - 1, depth - 2, depth - 257] {
             let mut stack = sevens(depth + 1, 1);
             put(&mut stack, slot, BAD);
-            for literal in [3, 39, 49] {
+            for literal in [3, 4, 39, 49] {
                 case(v, Call::Operate(literal), depth, stack.clone());
             }
             case(v, Call::Cell(0), depth, stack);
@@ -106,12 +106,12 @@ fn seen(v: &mut Vectors) {
 
 fn runs(v: &mut Vectors) {
     v.reason("deep stacks: runs on the top, and runs that go through all slots down to the last");
-    let top = [1, 15, 49, 27, 1, 3, 39, 61, 2];
+    let top = [1, 15, 49, 4, 49, 27, 1, 3, 39, 61, 2];
     for depth in ABOUT_256.into_iter().chain([514, 3_199]) {
         case(v, Call::Run(top.to_vec()), depth, sevens(depth + 1, 0));
     }
     for depth in [257, 258, 300, 514] {
-        for pattern in [&[15][..], &[27, 3], &[1, 2], &[58, 15]] {
+        for pattern in [&[15][..], &[27, 3], &[1, 2], &[58, 15], &[39, 4]] {
             let length = (depth - 1) * pattern.len();
             let literals = pattern.iter().copied().cycle().take(length);
             case(v, Call::Run(literals.collect()), depth, sevens(depth, 2));

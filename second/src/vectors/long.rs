@@ -112,12 +112,13 @@ fn at_positions(v: &mut Vectors) {
     }
     v.reason("long runs refused with report 5: no such literal");
     for position in POSITIONS.into_iter().chain([32_000]) {
-        at(v, 5, position, &[], 4, &[BAD, x]);
+        at(v, 5, position, &[], 6, &[BAD, x]);
     }
     v.reason("long runs refused with report 3: a malformed number comes to the top, or below it");
     for position in POSITIONS {
         at(v, 3, position, &[2], 61, &[BAD, x]);
         at(v, 3, position, &[], 3, &[BAD, x]);
+        at(v, 3, position, &[], 4, &[BAD, x]);
     }
     v.reason("long runs refused with report 6: a number less itself is no divisor");
     for position in POSITIONS {

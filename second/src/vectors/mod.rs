@@ -6,6 +6,7 @@ mod deep;
 mod division;
 mod lines;
 mod long;
+mod multiplication;
 mod one_number;
 mod paper;
 mod random;
@@ -125,6 +126,7 @@ pub fn all() -> Vectors {
     paper::cases(&mut v);
     one_number::cases(&mut v);
     addition::cases(&mut v);
+    multiplication::cases(&mut v);
     division::cases(&mut v);
     reports::cases(&mut v);
     runs::cases(&mut v);

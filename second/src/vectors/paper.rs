@@ -1,9 +1,9 @@
-//! Document 01's own sums and run, and the listings' examples, with the answers that those
-//! papers print: the reference is held to them here.
+//! Document 01's own sums and run, A1's products, and the listings' examples, with the answers
+//! that those papers print: the reference is held to them here.
 
 use super::Vectors;
 use crate::case::{Call, Case};
-use crate::reference::literals::{ADD, DIVIDE, INT, TRUNCATE};
+use crate::reference::literals::{ADD, DIVIDE, INT, MULTIPLY, TRUNCATE};
 use crate::{Bytes, ZERO};
 
 const ODD: Bytes = [0, 0xFF, 0, 0, 0];
@@ -31,6 +31,13 @@ const SUMS: [Row; 17] = [
     (&[[0x91, 0x80, 0x00, 0x80, 0x00]], TRUNCATE, Ok([0x91, 0x80, 0x00, 0x80, 0x00])),
     (&[[0x90, 0xFF, 0xFF, 0x80, 0x00]], INT, Ok(ODD)),
     (&[[0x91, 0x80, 0, 0, 0]], INT, Ok([0x81, 0x80, 0, 0, 0])),
+];
+
+/// Document 02, A1: 256 times 255, and 256 times 256, which is not short any more.
+#[rustfmt::skip]
+const PRODUCTS: [Row; 2] = [
+    (&[[0, 0, 0, 1, 0], [0, 0, 0xFF, 0, 0]], MULTIPLY, Ok([0, 0, 0, 0xFF, 0])),
+    (&[[0, 0, 0, 1, 0], [0, 0, 0, 1, 0]], MULTIPLY, Ok([0x91, 0, 0, 0, 0])),
 ];
 
 /// What the listings say in words: 1/10 and 1/1000 are not rounded up (001), I(2.4) is 2
@@ -94,6 +101,8 @@ fn worked_run(v: &mut Vectors) {
 pub fn cases(v: &mut Vectors) {
     v.reason("document 01's table of sums, each by itself and among neighbours");
     row_cases(v, &SUMS);
+    v.reason("A1's products: 256 times 255, 256 times 256");
+    row_cases(v, &PRODUCTS);
     v.reason("the listings' examples: 1/10, 1/1000, 2.4, -2.4, -65536, -65000 + -536");
     row_cases(v, &LISTINGS);
     v.reason("document 01's run whole");

@@ -12,7 +12,7 @@ const HUGE: Bytes = [0xFF, 0x7F, 0xFF, 0xFF, 0xFF];
 const TINY: Bytes = [0x01, 0, 0, 0, 0];
 
 /// Literals that are not in the table, from either end and between the others.
-const UNKNOWN: [u8; 6] = [0, 4, 6, 40, 62, 255];
+const UNKNOWN: [u8; 6] = [0, 6, 14, 40, 62, 255];
 
 fn case(v: &mut Vectors, call: Call, depth: usize, stack: &[u8]) {
     v.case(Case {
@@ -46,7 +46,7 @@ fn competing(v: &mut Vectors) {
         ("a zero on top of a malformed number", [BAD, NONE]),
         ("a malformed number on top of a zero", [NONE, BAD]),
         ("a quotient too big", [HUGE, TINY]),
-        ("a sum too big", [HUGE, HUGE]),
+        ("a sum and a product too big", [HUGE, HUGE]),
     ];
     for (words, numbers) in contents {
         v.reason(&format!("{words}: full, with room, too deep, too long"));
@@ -77,7 +77,7 @@ fn limits(v: &mut Vectors) {
         let mut stack = vec![0; len];
         stack[..5].copy_from_slice(&GOOD);
         for depth in [0, 1, 2, 3_198, 3_199, 3_200, 3_201, 3_202] {
-            for literal in [1, 2, 15, 27, 49, 50] {
+            for literal in [1, 2, 4, 15, 27, 49, 50] {
                 case(v, Call::Operate(literal), depth, &stack);
             }
             case(v, Call::Push(GOOD.to_vec()), depth, &stack);
@@ -98,7 +98,7 @@ fn limits(v: &mut Vectors) {
         1 << 32,
         4,
     ] {
-        for literal in [2, 15, 49, 99] {
+        for literal in [2, 4, 15, 49, 99] {
             case(v, Call::Operate(literal), depth, &stack);
             case(v, Call::Run(vec![literal]), depth, &stack);
         }

@@ -6,6 +6,8 @@ use crate::draw::{number, short};
 use crate::reference::literals::ALL;
 use crate::Bytes;
 
+const SIGN: u32 = 0x8000_0000;
+
 fn run(v: &mut Vectors, literals: &[u8], depth: usize, slots: &[Bytes], room: usize) {
     let mut stack = slots.concat();
     for i in 0..room {
@@ -34,7 +36,12 @@ pub fn cases(v: &mut Vectors) {
     v.reason("each report at each position of a run");
     for position in 0..6 {
         let before = [49, 27, 1, 49, 15, 61];
-        for (refused, top) in [(4, three[0]), (5, short(0, 0)), (15, [0, 1, 2, 3, 4])] {
+        for (refused, top) in [
+            (4, number(0xFE, 0x4000_0000)),
+            (5, short(0, 0)),
+            (6, three[0]),
+            (15, [0, 1, 2, 3, 4]),
+        ] {
             let mut literals = before[..position].to_vec();
             literals.push(refused);
             literals.push(2);
@@ -62,6 +69,27 @@ pub fn cases(v: &mut Vectors) {
         for seats in 2..=5 {
             let slots = [short(1, 0), short(votes, 0), short(seats + 1, 0)];
             run(v, &[5, 39, 15], 3, &slots, 2);
+        }
+    }
+    v.reason("a transfer value: surplus over papers, times the papers of a pile, whole part");
+    for papers in (1..=60).map(|n| n * 1087) {
+        for pile in [2, 61, 953] {
+            let slots = [short(pile, 0), short(papers / 3, 0), short(papers, 0)];
+            run(v, &[5, 4, 39], 3, &slots, 2);
+        }
+    }
+    v.reason("squares until the number is too big or too small, and powers on either sign");
+    for count in 1..=9 {
+        for x in [
+            short(2, 0),
+            short(-3, 0),
+            number(0x80, 0x7FFF_FFFF),
+            number(0x7F, SIGN),
+        ] {
+            run(v, &[49, 4].repeat(count), 1, &[x], 7);
+            let mut literals = vec![49; count];
+            literals.extend(vec![4; count]);
+            run(v, &literals, 1, &[x], 40);
         }
     }
     v.reason("doublings until the number is too big");
