@@ -1,5 +1,6 @@
 pub mod Multiplication
 pub mod MultiplicationLaws
+pub mod Places
 pub mod ShortProduct
 pub mod Rounding
 pub mod RoundingLaws

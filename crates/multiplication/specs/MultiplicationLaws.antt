@@ -4,8 +4,8 @@ use mathlib.Core.Bool.{Bool, true, false, cond, and-eq-true-iff}
 use Prim.Native.Nat.{ℕ, _+_, _*_, _-_, _^_, _/_, _%_, _≤_, _<_}
 use native.Mathlib.Nat.{mul-le-mul}
 use native.Mathlib.Omega.{arith}
-use borrow.Author.Tests.{lt-leb, le-leb, eq-eqb, ne-eqb, leb-true, leb-false, ltb-true, ltb-false, eqb-true, eqb-false}
-use lib.Dec.{ltb, leb, eqb}
+use borrow.Author.Tests.{lt-leb, le-leb, eq-eqb, ne-eqb, leb-true, leb-false, eqb-true, eqb-false}
+use lib.Dec.{leb, eqb}
 use Rattle.number.specs.declared.Number.{Number}
 use Rattle.number.specs.Number.{zeros, mantissa}
 use Rattle.number.specs.Restack.{restacked}
@@ -55,18 +55,6 @@ product-bounds m n a b c d =
     let most : m * n ≤ (2 ^ 32 - 1) * (2 ^ 32 - 1) = mul-le-mul {n₂ = 2 ^ 32 - 1} {m₂ = 2 ^ 32 - 1} (omega arith) (omega arith) in
     (mul-le-mul {n₁ = 2 ^ 31} {m₁ = 2 ^ 31} a c, omega arith)
 
--- P from its top bit on
-abbrev pub topped : ℕ → ℕ
-topped p = cond (ltb p (2 ^ 63)) (2 * p) p
-
--- its first 33 digits are the mantissa and the digit that rounds it
-pub mantissa-rounded : (p : ℕ) → productMantissa p ≡ (topped p / 2 ^ 31 + 1) / 2
-mantissa-rounded p = go (ltb p (2 ^ 63)) refl
-  where
-    go : (b : Bool) → ltb p (2 ^ 63) ≡ b → productMantissa p ≡ (cond b (2 * p) p / 2 ^ 31 + 1) / 2
-    go true e = simp (lt-leb (2 ^ 63) p (ltb-true _ _ e)) (omega arith)
-    go false e = simp (le-leb (2 ^ 63) p (ltb-false _ _ e)) (omega arith)
-
 -- a mantissa of 2^32 carries into the exponent, and the bits that are stored are the same
 carried-closed : (s m e : ℕ) → m ≤ 2 ^ 32 → closed s (carried m e) ≡ closed s (loose (m % 2 ^ 31) (e + m / 2 ^ 32) 0)
 carried-closed s m e h = go (eqb m (2 ^ 32)) refl
@@ -78,6 +66,14 @@ carried-closed s m e h = go (eqb m (2 ^ 32)) refl
     go false i =
         let less : m < 2 ^ 32 = omega (arith, eqb-false m (2 ^ 32) i) in
         closed-low-bits s m e ∙ ap (λ (k : ℕ). closed s (loose (m % 2 ^ 31) k 0)) (omega arith)
+
+-- E of 0 or below
+pub ended-low : (s m t e : ℕ) → e ≤ 256 → endedProduct s m e ≡ closed s (loose t e 0)
+ended-low s m t e h = simp (le-leb e 256 h) (closed-any s m t e h)
+
+-- any other
+pub ended-high : (s m e : ℕ) → 256 < e → m ≤ 2 ^ 32 → endedProduct s m e ≡ closed s (loose (m % 2 ^ 31) (e + m / 2 ^ 32) 0)
+ended-high s m e h l = simp (lt-leb e 256 h) (carried-closed s m e l)
 
 -- ---- of two full numbers
 
@@ -106,17 +102,15 @@ module _ (x y : Number) (f : IsFull x) (g : IsFull y) where
       go false e = omega (arith, leb-false (2 ^ 63) p e, bounds)
 
   module _ (e : ℕ) (i : e ≡ x .b1 + y .b1 + 127 + p / 2 ^ 63) where
-    is-ended : restackedProduct x y ≡ endedProduct (signOfTwo x y) (productMantissa p) e
+    pub is-ended : restackedProduct x y ≡ endedProduct (signOfTwo x y) (productMantissa p) e
     unfolding fullProduct
     is-ended = neither x y (omega arith) (omega arith) ∙ ap (endedProduct (signOfTwo x y) (productMantissa p)) (exponent ∙ sym i)
 
-    -- E of 0 or below
     pub product-low : e ≤ 256 → (t : ℕ) → restackedProduct x y ≡ closed (signOfTwo x y) (loose t e 0)
-    product-low h t = is-ended ∙ simp (le-leb e 256 h) (closed-any (signOfTwo x y) (productMantissa p) t e h)
+    product-low h t = is-ended ∙ ended-low (signOfTwo x y) (productMantissa p) t e h
 
-    -- any other
     pub product-high : 256 < e → (m : ℕ) → m ≡ productMantissa p → restackedProduct x y ≡ closed (signOfTwo x y) (loose (m % 2 ^ 31) (e + m / 2 ^ 32) 0)
     product-high h m j =
         is-ended
-        ∙ simp (lt-leb e 256 h) (carried-closed (signOfTwo x y) (productMantissa p) e (mantissa-bounds .1))
+        ∙ ended-high (signOfTwo x y) (productMantissa p) e h (mantissa-bounds .1)
         ∙ ap (λ (k : ℕ). closed (signOfTwo x y) (loose (k % 2 ^ 31) (e + k / 2 ^ 32) 0)) (sym j)

@@ -130,8 +130,8 @@ module _ (x y : Number) (f : IsFull x) (g : IsFull y) where
       let number = fullOf s n (m % 2 ^ 31) in (
         number,
         high-closed (omega arith)
-        ∙ closed-stored s (loose (m % 2 ^ 31) (e + m / 2 ^ 32) 0) (omega arith) (omega arith)
-        ∙ ap (λ (t : ℕ). Done (fullOf s n t)) {x = m % 2 ^ 31 + 0 % 2} {y = m % 2 ^ 31} (omega arith),
+            ∙ closed-stored s (loose (m % 2 ^ 31) (e + m / 2 ^ 32) 0) (omega arith) (omega arith)
+            ∙ ap (λ (t : ℕ). Done (fullOf s n t)) {x = m % 2 ^ 31 + 0 % 2} {y = m % 2 ^ 31} (omega arith),
         record { rounded = subst (Rounded (x .b1) (y .b1) p) (sym (restack-full number (omega arith))) (c .stored n (omega arith)); signs = sign-full s n (m % 2 ^ 31) (omega arith) },
       )
 
@@ -139,9 +139,9 @@ module _ (x y : Number) (f : IsFull x) (g : IsFull y) where
   full-report6 = (
     (λ h. by (ltb 256 e) refl h),
     (λ o.
-    let c = carry .over .1 o in
-    let most = mantissa-bounds x y f g .1 in
-    high-closed (omega arith) ∙ closed-too-big s (loose (m % 2 ^ 31) (e + m / 2 ^ 32) 0) c),
+        let c = carry .over .1 o in
+        let most = mantissa-bounds x y f g .1 in
+        high-closed (omega arith) ∙ closed-too-big s (loose (m % 2 ^ 31) (e + m / 2 ^ 32) 0) c),
   )
     where
       by : (b : Bool) → ltb 256 e ≡ b → restackedProduct x y ≡ TooBig → Overflows (x .b1) (y .b1) p

@@ -2,11 +2,10 @@
 use ending::Answer;
 use number::Number;
 ghost use mathlib.Core.Path.{_≡_};
-ghost use Prim.Native.Nat.{ℕ, _^_, _/_, _%_};
-ghost use Rattle.number.specs.Number.{number, zeros, low, fullOf};
+ghost use Prim.Native.Nat.{ℕ, _+_, _*_, _^_, _/_, _%_};
+ghost use Rattle.number.specs.Number.{number, zeros, low};
 ghost use Rattle.ending.specs.declared.answer.Answer.the-variants.{Done};
-ghost use Rattle.multiplication.specs.Multiplication.{restackedProduct};
-ghost use Rattle.multiplication.specs.MultiplicationLaws.{topped as toppedOf};
+ghost use Rattle.multiplication.specs.Places.{productAt};
 ghost use Rattle.multiplication.specs.ShortProduct.{Multiplied};
 
 // What two numbers whose b1 is 0 come to, unless one is malformed.
@@ -67,39 +66,26 @@ fn zero() -> Answer
     Answer::Done(Number { b1: 0, word: 0 })
 }
 
-// P from its top bit on. Whether that is 2^63 is as good as random: the compiler selects, and no branch goes by it.
-fn topped(p: u64) -> u64
-    ensures { λ r. ⌜ r ≡ toppedOf p ⌝ }
+// Of a mantissa, whose top bit goes without saying, and what it is multiplied by: another mantissa, or a short number's magnitude, which need not be made normal
+// first. The sign is the top bit of a word, and e is the sum of the exponent bytes, a magnitude's being 160.
+pub fn multiplication(sign: u32, m: u32, n: u32, e: u32) -> Answer
+    ensures { λ r. ⌜ r ≡ productAt (sign / 2 ^ 31) ((m % 2 ^ 31 + 2 ^ 31) * n) e ⌝ }
 {
-    if p < 9223372036854775808 {
-        return 2 * p;
-    }
-    p
-}
-
-// Of re-stacked numbers, in the parts that `division` takes.
-pub fn multiplication(s: u32, m: u32, e: u32, t: u32, n: u32, f: u32) -> Answer
-    ensures { λ r. ⌜ r ≡ restackedProduct (fullOf (s / 2 ^ 31) (e % 256) m) (fullOf (t / 2 ^ 31) (f % 256) n) ⌝ }
-{
-    let first = e % 256;
-    let second = f % 256;
-    if first == 0 {
+    let p = ((m % 2147483648) as u64 + 2147483648) * n as u64;
+    if p == 0 {
         return zero();
     }
-    if second == 0 {
-        return zero();
-    }
-    let p = ((m % 2147483648) as u64 + 2147483648) * ((n % 2147483648) as u64 + 2147483648);
-    let sign = (s ^ t) / 2147483648;
+    let places = u64::leading_zeros(p) as u64;
     // The ending keeps an exponent as e + 256.
-    let before = first as u64 + second as u64 + 127 + p / 9223372036854775808;
+    let before = e as u64 + 128 - places;
     if before < 257 {
-        return ending::close(sign as u8, 0, before, 0);
+        return ending::close((sign / 2147483648) as u8, 0, before, 0);
     }
-    // The mantissa and one digit more, which rounds it. Where that carries to 2^32, the exponent rises and the bits that are stored are those of 2^31.
-    let rounded = (topped(p) / 2147483648 + 1) / 2;
+    // From its top bit on, the mantissa and one digit more, which rounds it. Where that carries to 2^32, the exponent rises and the bits that are stored are
+    // those of 2^31.
+    let rounded = ((p << places) / 2147483648 + 1) / 2;
     ending::close(
-        sign as u8,
+        (sign / 2147483648) as u8,
         (rounded % 2147483648) as u32,
         before + rounded / 4294967296,
         0,

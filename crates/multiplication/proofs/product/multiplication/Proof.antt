@@ -1,93 +1,77 @@
--- `multiplication` meets its contract: each return is a law of `restackedProduct`.
+-- `multiplication` meets its contract: each return is a law of `productAt`.
 use borrow.Author.Needs.{needs}
 use Prim.Native.Nat.{ℕ, _+_, _*_, _-_, _^_, _/_, _%_, _≤_, _<_}
-use mathlib.Core.Path.{_≡_, sym, _∙_, ap, ap₂}
+use mathlib.Core.Path.{_≡_, refl, sym, _∙_, ap}
+use native.Mathlib.Nat.{mul-le-mul, mod-eq-of-lt}
 use native.Mathlib.Omega.{arith}
-use lib.Bits.{bitXor}
-use Rattle.number.specs.declared.Number.{Number}
-use Rattle.number.specs.Number.{mantissa, fullOf}
-use Rattle.ending.specs.Ending.{loose, closed}
-use Rattle.division.specs.Operand.{IsFull}
-use Rattle.division.specs.DivisionLaws.{signs-differ}
-use Rattle.multiplication.specs.Multiplication.{signOfTwo}
-use Rattle.multiplication.specs.MultiplicationLaws.{topped, zero-first, zero-second, product-bounds, mantissa-rounded, product-low, product-high}
+use lib.Count.{leadingZeros}
+use Rattle.multiplication.specs.MultiplicationLaws.{ended-low, ended-high}
+use Rattle.multiplication.specs.Multiplication.{endedProduct}
+use Rattle.multiplication.specs.Places.{roundedAt, at-zero, at-some, top-set}
 use Rattle.multiplication.proofs.product.multiplication.Statement.{statement}
 use Rattle.multiplication.proofs.product.multiplication.Tie as tie
 
--- neither number is zero
-module _ (c : tie.Else2) where
-  abbrev x : Number
-  x = let i = c .before .before .args in fullOf (i .s / 2 ^ 31) (i .e % 256) (i .m)
+-- a product of two numbers below 2^32
+fits : (c : tie.Start) → (let i = c .args in (i .m % 2 ^ 31 + 2 ^ 31) * i .n ≤ (2 ^ 32 - 1) * (2 ^ 32 - 1))
+fits c = mul-le-mul {n₂ = 2 ^ 32 - 1} {m₂ = 2 ^ 32 - 1} (omega arith) (omega arith)
 
-  abbrev y : Number
-  y = let i = c .before .before .args in fullOf (i .t / 2 ^ 31) (i .f % 256) (i .n)
+-- the exponent, with the carry
+adds : (k r : ℕ) → k < 2 ^ 33 → r ≤ 2 ^ 32 → k + r / 2 ^ 32 < 2 ^ 64
+adds k r h g = omega arith
 
+-- the product, which is not zero
+module _ (c : tie.Else1) where
   abbrev p : ℕ
-  p = let i = c .before .before .args in (i .m % 2 ^ 31 + 2 ^ 31) * (i .n % 2 ^ 31 + 2 ^ 31)
+  p = let i = c .before .args in (i .m % 2 ^ 31 + 2 ^ 31) * i .n
 
-  bounds : (2 ^ 62 ≤ p) × (p ≤ 2 ^ 64 - 2 ^ 33 + 1)
-  bounds = product-bounds _ _ (omega arith) (omega arith) (omega arith) (omega arith)
+  abbrev z : ℕ
+  z = leadingZeros 64 p
 
-  fx : IsFull x
-  fx = record { bytes = record { b1< = omega arith; word< = omega arith }; first = omega (arith, c .before .if1 .left) }
+  abbrev e : ℕ
+  e = c .before .args .e + 128 - z
 
-  fy : IsFull y
-  fy = record { bytes = record { b1< = omega arith; word< = omega arith }; first = omega (arith, c .if2 .left) }
+  abbrev m : ℕ
+  m = (p * 2 ^ z % 2 ^ 64 / 2 ^ 31 + 1) / 2
 
-  same : p ≡ mantissa x * mantissa y
-  same = ap₂ (λ (a b : ℕ). a * b) (omega arith) (omega arith)
+  top : (2 ^ 63 ≤ p * 2 ^ z) × (p * 2 ^ z < 2 ^ 64) × (z ≤ 63)
+  top = top-set 63 p (omega (arith, c .if1 .left)) (omega (arith, fits (c .before)))
 
-  signs : (let i = c .before .before .args in bitXor (i .s) (i .t) / 2 ^ 31 ≡ signOfTwo x y)
-  signs = let i = c .before .before .args in signs-differ (i .s) (i .t) (omega arith) (omega arith) ∙ ap₂ (λ (a b : ℕ). (a + b) % 2) (omega arith) (omega arith)
+  rounded : m ≡ roundedAt p z
+  rounded = ap (λ (k : ℕ). (k / 2 ^ 31 + 1) / 2) (mod-eq-of-lt (top .1))
+
+  small : m ≤ 2 ^ 32
+  small = omega arith
+
+returns-2 : tie.Need-returns-2
+returns-2 c =
+    let d = c .before .before in
+    c .close .ensures ∙ sym (at-some _ (p d) _ (d .if1 .left) (z d) refl ∙ ended-low _ _ 0 (e d) (omega arith))
 
 returns-3 : tie.Need-returns-3
 returns-3 c =
     let d = c .before .before in
-    c .close .ensures
-    ∙ ap (λ (k : ℕ). closed k (loose 0 (x d .b1 + y d .b1 + 127 + p d / 2 ^ 63) 0)) (signs d)
-    ∙ sym (product-low (x d) (y d) (fx d) (fy d) _ (ap (λ (k : ℕ). x d .b1 + y d .b1 + 127 + k / 2 ^ 63) (same d)) (omega arith) 0)
-
-returns-4 : tie.Need-returns-4
-returns-4 c =
-    let d = c .before .before .before in
-    let r = (c .before .topped .result / 2 ^ 31 + 1) / 2 in
     c .close2 .ensures
-    ∙ ap (λ (k : ℕ). closed k (loose (r % 2 ^ 31) (x d .b1 + y d .b1 + 127 + p d / 2 ^ 63 + r / 2 ^ 32) 0)) (signs d)
-    ∙ sym (product-high (x d) (y d) (fx d) (fy d) _ (ap (λ (k : ℕ). x d .b1 + y d .b1 + 127 + k / 2 ^ 63) (same d)) (omega arith) _
-    (ap (λ (k : ℕ). (k / 2 ^ 31 + 1) / 2) (c .before .topped .ensures ∙ ap topped (same d)) ∙ sym (mantissa-rounded (mantissa (x d) * mantissa (y d)))))
-
--- the exponent, with the carry
-adds : (k r : ℕ) → k < 2 ^ 10 → r < 2 ^ 64 → k + r / 2 ^ 32 < 2 ^ 64
-adds k r h g = omega arith
-
-before-small : (c : tie.Else2) → x c .b1 + y c .b1 + 127 + p c / 2 ^ 63 < 2 ^ 10
-before-small c = omega (arith, bounds c)
+    ∙ sym (at-some _ (p d) _ (d .if1 .left) (z d) refl ∙ ap (λ (k : ℕ). endedProduct (d .before .args .sign / 2 ^ 31) k (e d)) (sym (rounded d)) ∙ ended-high _ (m d) (e d) (omega arith) (small d))
 
 pub multiplication-spec : {M : Type 1} → statement M
 multiplication-spec =
     tie.close
     (tie.spec
+    (λ c. search needs)
+    (λ c. search needs)
+    (λ c. omega (arith, fits c))
     (λ c κs. tt)
-    (λ c. c .zero .ensures ∙ sym (zero-first _ _ (c .before .if1 .taken)))
+    (λ c. c .zero .ensures ∙ sym (at-zero _ _ _ (c .before .if1 .taken)))
+    (λ c. omega (arith, top c))
+    (λ c. search needs)
+    (λ c. omega (arith, top c))
+    (λ c. search needs)
     (λ c κs. tt)
-    (λ c. c .zero2 .ensures ∙ sym (zero-second _ _ (c .before .before .if1 .left) (c .before .if2 .taken)))
-    (λ c. search needs)
-    (λ c. search needs)
-    (λ c. search needs)
-    (λ c. search needs)
-    (λ c. omega (arith, bounds c))
-    (λ c. search needs)
-    (λ c. search needs)
-    (λ c. search needs)
-    (λ c. search needs)
-    (λ c. omega (arith, bounds c))
-    (λ c. omega (arith, signs (c .before)))
-    (λ c κs. tt)
-    returns-3
-    (λ c κs. tt)
+    returns-2
+    (λ c. omega (arith, top (c .before)))
     (λ c. omega arith)
-    (λ c. omega (arith, signs (c .before .before)))
+    (λ c. search needs)
     (λ c. omega arith)
-    (λ c. record { fits = adds _ _ (before-small (c .before .before)) (omega arith) })
+    (λ c. record { fits = adds _ (m (c .before)) (omega arith) (small (c .before)) })
     (λ c κs. tt)
-    returns-4)
+    returns-3)
