@@ -191,6 +191,10 @@ class Installed(unittest.TestCase):
         status, out, err = shell('"$P/bin/trenailer" calc "$ROOT/examples/quota.txt"')
         self.assertEqual((status, out.splitlines()[-1], err), (0, b"0 1 00 00 8F 00 00", b""))
 
+    def test_transfer_of_a_sheet(self):
+        status, out, err = shell('"$P/bin/trenailer" calc "$ROOT/examples/transfer.txt"')
+        self.assertEqual((status, out.splitlines()[-1], err), (0, b"0 1 00 00 0A 00 00", b""))
+
     def test_header_in_other_languages(self):
         for compiler, words in (("cc", "-std=c99 -xc"), ("c++", "-std=c++11 -xc++")):
             if shutil.which(compiler):

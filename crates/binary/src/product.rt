@@ -17,9 +17,9 @@ pub fn multiply(stack: &mut [u8], depth: &mut usize) -> u8
         return slots::refusal(stack, old, table::MULTIPLY_TAKES);
     }
     if both_short(stack, old) {
-        return shorts(stack, depth, old);
+        return short_route(stack, depth, old);
     }
-    restacked(stack, depth, old)
+    full_route(stack, depth, old)
 }
 
 fn both_short(stack: &[u8], depth: usize) -> bool
@@ -35,7 +35,7 @@ fn both_short(stack: &[u8], depth: usize) -> bool
 }
 
 // Of two short numbers, or odd ones. Neither is re-stacked.
-fn shorts(stack: &mut [u8], depth: &mut usize, old: usize) -> u8
+fn short_route(stack: &mut [u8], depth: &mut usize, old: usize) -> u8
     requires { ⌜ Pair (now stack) (now depth) old true ⌝ }
     ensures { λ r. ⌜ operateOf (now (stack .entry)) (now (depth .entry)) 4 ≡ (outcome r (now (depth .exit)), now (stack .exit)) ⌝ }
 {
@@ -116,7 +116,7 @@ fn factored(stack: &[u8], depth: usize) -> Factors
 }
 
 // Where one is full.
-fn restacked(stack: &mut [u8], depth: &mut usize, old: usize) -> u8
+fn full_route(stack: &mut [u8], depth: &mut usize, old: usize) -> u8
     requires { ⌜ Pair (now stack) (now depth) old false ⌝ }
     ensures { λ r. ⌜ operateOf (now (stack .entry)) (now (depth .entry)) 4 ≡ (outcome r (now (depth .exit)), now (stack .exit)) ⌝ }
 {

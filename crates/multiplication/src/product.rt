@@ -1,4 +1,4 @@
-// Multiplication: one machine product, where the listing adds and shifts.
+// Multiplication: one machine product, where the ROM adds and shifts.
 use ending::Answer;
 use number::Number;
 ghost use mathlib.Core.Path.{_≡_};

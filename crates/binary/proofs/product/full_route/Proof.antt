@@ -1,4 +1,4 @@
--- `restacked` meets its contract: the answer is the product of the two numbers.
+-- `full_route` meets its contract: the answer is the product of the two numbers.
 use borrow.Author.Needs.{needs}
 use Prim.Native.Nat.{ℕ}
 use mathlib.Core.Path.{refl, sym, _∙_, ap, ap₂}
@@ -6,8 +6,8 @@ use Rattle.multiplication.specs.Multiplication.{productOf}
 use Rattle.literals.specs.Operate.{operateOf}
 use Rattle.binary.specs.Stored.{storedOf, two-stored}
 use Rattle.binary.specs.Product.{product-line, pair-malformed}
-use Rattle.binary.proofs.product.restacked.Statement.{statement}
-use Rattle.binary.proofs.product.restacked.Tie as tie
+use Rattle.binary.proofs.product.full_route.Statement.{statement}
+use Rattle.binary.proofs.product.full_route.Tie as tie
 
 returns-2 : tie.Need-returns-2
 returns-2 c =
@@ -21,8 +21,8 @@ returns-2 c =
     ap (λ (d : ℕ). operateOf (i .args .stack .now) d 4) (i .pre .same)
     ∙ two-stored _ _ _ productOf product-line (i .pre .there) m _ _ _ (ap₂ (storedOf (i .args .stack .now)) (sym (i .pre .same)) (sym is) ∙ p .store .ensures)
 
-pub restacked-spec : {M : Type 1} → statement M
-restacked-spec =
+pub full-route-spec : {M : Type 1} → statement M
+full-route-spec =
     tie.close
     (tie.spec
     (λ c κs. c .before .before .pre .forms)

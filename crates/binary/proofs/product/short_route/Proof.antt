@@ -1,4 +1,4 @@
--- `shorts` meets its contract: what `short_product` answers is the product of the two.
+-- `short_route` meets its contract: what `short_product` answers is the product of the two.
 use borrow.Author.Needs.{needs}
 use Prim.Native.Nat.{ℕ, _+_, _-_}
 use mathlib.Core.Path.{_≡_, sym, _∙_, ap, ap₂, subst₂}
@@ -14,8 +14,8 @@ use Rattle.slots.specs.ReachLaws.{has}
 use Rattle.literals.specs.Operate.{outcome, operateOf}
 use Rattle.literals.specs.WayLaws.{two-done}
 use Rattle.binary.specs.Product.{product-line, by-words, pair-malformed}
-use Rattle.binary.proofs.product.shorts.Statement.{statement}
-use Rattle.binary.proofs.product.shorts.Tie as tie
+use Rattle.binary.proofs.product.short_route.Statement.{statement}
+use Rattle.binary.proofs.product.short_route.Tie as tie
 
 -- the numbers by their words
 multiplied : (c : tie.After-short-product) → (let i = c .before .before .before .before .before .before .before .before .before .before in
@@ -46,8 +46,8 @@ returns-2 c =
     ∙ two-done s d 4 productOf product-line (i .pre .there) k (number (r .b1) (r .word)) (m .is k)
     ∙ ap₂ (λ (n : ℕ) (u : List ℕ). (outcome 0 n, u)) after (sym (p .put-at .ensures))
 
-pub shorts-spec : {M : Type 1} → statement M
-shorts-spec =
+pub short-route-spec : {M : Type 1} → statement M
+short-route-spec =
     tie.close
     (tie.spec
     (λ c κs. tt)
