@@ -23,6 +23,8 @@ pub struct Vectors {
     pub stdin: String,
     pub stdout: String,
     pub cases: usize,
+    /// Those since the last reason.
+    of_group: u32,
 }
 
 const HEADER: &str = "\
@@ -34,6 +36,7 @@ const HEADER: &str = "\
 impl Vectors {
     fn reason(&mut self, words: &str) {
         self.stdin.push_str(&format!("\n# {words}\n"));
+        self.of_group = 0;
     }
 
     fn case(&mut self, case: Case) -> After {
@@ -48,6 +51,7 @@ impl Vectors {
         self.stdout.push_str(answer);
         self.stdout.push('\n');
         self.cases += 1;
+        self.of_group += 1;
     }
 
     /// One literal on these operands, with the neighbours changing from case to case.
@@ -61,9 +65,10 @@ impl Vectors {
     }
 
     /// The operands on top, with or without a slot below, a slot above and stray bytes, so
-    /// that a byte wrongly written or read is seen.
+    /// that a byte wrongly written or read is seen. Which goes by the group's own cases: those
+    /// of one group stay as they are where another changes.
     fn among_neighbours(&self, operands: &[Bytes]) -> (Vec<u8>, usize) {
-        let n = self.cases as u32;
+        let n = self.of_group;
         let mark = n.wrapping_mul(0x9E37_79B1) | 0x0101_0101;
         let mut stack = Vec::new();
         if n % 3 == 1 {
