@@ -1,6 +1,8 @@
 // Literal 4.
 use crate::storing::store;
+use ending::Answer;
 use literals::table;
+use number::Number;
 ghost use mathlib.Core.Path.{_≡_};
 ghost use mathlib.Core.Bool.{true, false};
 ghost use Rattle.number.specs.Number.{number};
@@ -48,9 +50,18 @@ fn short_route(stack: &mut [u8], depth: &mut usize, old: usize) -> u8
     if product.malformed {
         return 3;
     }
-    slots::put_at(stack, old, 1, product.b1, product.word);
-    *depth = *depth - table::MULTIPLY_TAKES + table::MULTIPLY_LEAVES;
-    0
+    let answer = Answer::Done(Number {
+        b1: product.b1,
+        word: product.word,
+    });
+    store(
+        stack,
+        depth,
+        old,
+        answer,
+        table::MULTIPLY_TAKES,
+        table::MULTIPLY_LEAVES,
+    )
 }
 
 // A full number's mantissa, whose top bit goes without saying, what it is multiplied by, the sum of their exponent bytes, and the sign on top of a word. A short
