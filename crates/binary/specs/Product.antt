@@ -17,7 +17,7 @@ use Rattle.multiplication.specs.Multiplication.{bothShort, productOf}
 use Rattle.division.specs.DivisionLaws.{signs-differ}
 use Rattle.multiplication.specs.MultiplicationLaws.{both-zero}
 use Rattle.multiplication.specs.Places.{productAt, full-by-full, full-by-short}
-use Rattle.multiplication.specs.RoundingLaws.{product-commutes}
+use Rattle.multiplication.specs.Commutes.{product-commutes}
 use Rattle.binary.specs.declared.product.Factors.{Factors}
 use Rattle.literals.specs.Literals.{two, row, rowOf}
 use Rattle.literals.specs.Operate.{outcome, operateOf}

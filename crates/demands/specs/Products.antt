@@ -10,8 +10,9 @@ use Rattle.number.specs.declared.Number.{Number}
 use Rattle.number.specs.Number.{malformed, mantissa}
 use Rattle.number.specs.Restack.{restacked, CountsAsZero}
 use Rattle.multiplication.specs.Multiplication.{signOfTwo, taken, productOf}
-use Rattle.multiplication.specs.Rounding.{Overflows, Product, Products}
-use Rattle.multiplication.specs.RoundingLaws.{products, product-commutes}
+use Rattle.multiplication.specs.Rounding.{Overflows, Result, Products}
+use Rattle.multiplication.specs.RoundingLaws.{products}
+use Rattle.multiplication.specs.Commutes.{product-commutes}
 use Rattle.slots.specs.declared.outcome.Outcome.{Outcome}
 use Rattle.slots.specs.Slots.{slot, numberIn, bytesOf, lower, top}
 use Rattle.slots.specs.Reports.{overLimits}
@@ -51,7 +52,7 @@ module _ (s : List ℕ) (d : ℕ) where
   pub record LeftProduct : Type 0 where
     pub report : multiplied .0 .report ≡ 0
     pub depth : multiplied .0 .depth ≡ d - 1
-    pub result : Product A B P (signOfTwo (lower s d) (top s d)) (numberIn (multiplied .1) (d - 2))
+    pub result : Result A B P (signOfTwo (lower s d) (top s d)) (numberIn (multiplied .1) (d - 2))
     pub long : length (multiplied .1) ≡ length s
     pub elsewhere : (k : ℕ) → (5 * (d - 2) ≤ k → k < 5 * (d - 2) + 5 → ⊥) → getD (multiplied .1) k 0 ≡ getD s k 0
 
@@ -79,7 +80,7 @@ module _ (s : List ℕ) (d : ℕ) (h : Multiplies s d) where
             record {
               report = a .report;
               depth = a .depth;
-              result = subst⁻¹ (Product (A s d) (B s d) (P s d) (signOfTwo (lower s d) (top s d))) (a .there) (r .2);
+              result = subst⁻¹ (Result (A s d) (B s d) (P s d) (signOfTwo (lower s d) (top s d))) (a .there) (r .2);
               long = a .long;
               elsewhere = a .elsewhere;
             };

@@ -1,5 +1,6 @@
 pub mod Multiplication
 pub mod MultiplicationLaws
+pub mod Commutes
 pub mod Places
 pub mod ShortProduct
 pub mod Rounding

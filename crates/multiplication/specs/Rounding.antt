@@ -28,11 +28,11 @@ Rounded a b p number =
     ⊎ ((number .b1 + 129 ≡ a + b) × (mantissa number ≡ nearest p (2 ^ 31)))
 
 -- "A nonzero answer is negative exactly when the signs differ": s is 1 then, else 0. A number that is stored short is re-stacked to be looked at.
-pub record Product (a b p s : ℕ) (number : Number) : Type 0 where
+pub record Result (a b p s : ℕ) (number : Number) : Type 0 where
   pub rounded : Rounded a b p (restacked number)
   pub signs : sign number ≡ s
 
 -- E, before the rounding, is any natural number that makes a + b with 128 or 129; below 0 there is none.
 pub record Products (a b p s : ℕ) (answer : Answer) : Type 0 where
   pub report6 : (answer ≡ TooBig) ↔ Overflows a b p
-  pub result : (E : ℕ) → E + taken p ≡ a + b → 1 ≤ E → ¬ Overflows a b p → (number : Number) × (answer ≡ Done number) × Product a b p s number
+  pub result : (E : ℕ) → E + taken p ≡ a + b → 1 ≤ E → ¬ Overflows a b p → (number : Number) × (answer ≡ Done number) × Result a b p s number

@@ -1,14 +1,14 @@
--- The theorems of `Rounding` hold of any two numbers, and multiplication commutes.
+-- The theorems of `Rounding` hold of any two numbers.
 use mathlib.Core.Path.{_≡_, refl, sym, _∙_, ap, ap₂, subst}
 use mathlib.Core.Logic.{_↔_, _⊎_, inl, inr, ⊎-elim}
-use mathlib.Core.Bool.{Bool, true, false, cond, _&&_, and-comm, or-comm}
+use mathlib.Core.Bool.{Bool, true, false, cond}
 use Prim.Native.Nat.{ℕ, zero, _+_, _*_, _-_, _^_, _/_, _%_, _≤_, _<_}
-use native.Mathlib.Nat.{mul-comm, add-comm, mul-le-mul, eq-zero-or-pos}
+use native.Mathlib.Nat.{mul-le-mul, eq-zero-or-pos}
 use native.Mathlib.Omega.{arith}
 use borrow.Author.Tests.{leb-true, leb-false, ltb-true, ltb-false, eqb-true, eqb-false}
 use lib.Dec.{ltb, leb, eqb}
 use Rattle.number.specs.declared.Number.{Number}
-use Rattle.number.specs.Number.{zeros, sign, mantissa, fullOf, shortMagnitude, shortOf}
+use Rattle.number.specs.Number.{mantissa, fullOf, shortMagnitude, shortOf}
 use Rattle.number.specs.NumberLaws.{Bytes, sign-full}
 use Rattle.number.specs.Restack.{fullOfShort, restacked, CountsAsZero}
 use Rattle.number.specs.RestackLaws.{restack-full, restack-some, restack-zero}
@@ -20,10 +20,10 @@ use Rattle.ending.specs.Ending.{loose, closed}
 use Rattle.ending.specs.EndingLaws.{closed-too-big, closed-too-big-only, closed-stored}
 use Rattle.division.specs.Demand3.{nearest}
 use Rattle.division.specs.Operand.{IsFull, restacked-full}
-use Rattle.multiplication.specs.Multiplication.{bothShort, shortProduct, staysShort, shortStored, signOfTwo, taken, productMantissa, endedProduct, fullProduct, restackedProduct, productOf}
+use Rattle.multiplication.specs.Multiplication.{bothShort, shortProduct, staysShort, shortStored, signOfTwo, taken, productMantissa, restackedProduct, productOf}
 use Rattle.multiplication.specs.MultiplicationLaws.{both-zero, product-restacked, product-beyond, bounds, mantissa-bounds, product-low, product-high, zero-first, zero-second}
 use Rattle.multiplication.specs.ShortProduct.{product-some, full-route-exact}
-use Rattle.multiplication.specs.Rounding.{Overflows, ProductTooBig, Rounded, Product, Products}
+use Rattle.multiplication.specs.Rounding.{Overflows, ProductTooBig, Rounded, Result, Products}
 
 -- ---- of two full numbers
 
@@ -121,7 +121,7 @@ module _ (x y : Number) (f : IsFull x) (g : IsFull y) where
 
   -- The full route, whether or not it is taken: its number is full.
   full-result : (E : ℕ) → E + taken p ≡ x .b1 + y .b1 → 1 ≤ E → ¬ Overflows (x .b1) (y .b1) p
-      → (number : Number) × (restackedProduct x y ≡ Done number) × Product (x .b1) (y .b1) p s number
+      → (number : Number) × (restackedProduct x y ≡ Done number) × Result (x .b1) (y .b1) p s number
   full-result E h one fit =
       let c = carry in
       let n = e + m / 2 ^ 32 - 256 in
@@ -233,25 +233,3 @@ product-too-big x y bx by = ((λ h. only h (eq-zero-or-pos (restacked x .b1)) (e
         let nx : ¬ CountsAsZero x = λ e. omega (arith, ap (λ (n : Number). n .b1) e) in
         let ny : ¬ CountsAsZero y = λ e. omega (arith, ap (λ (n : Number). n .b1) e) in
         (nx, ny, products x y bx by nx ny .report6 .0 h)
-
--- ---- multiplication commutes, bytes and report
-
-module _ (x y : Number) where
-  signs-commute : signOfTwo x y ≡ signOfTwo y x
-  signs-commute = ap (λ (k : ℕ). k % 2) (add-comm (sign x) (sign y))
-
-  restacked-commutes : restackedProduct x y ≡ restackedProduct y x
-  unfolding restackedProduct fullProduct
-  restacked-commutes =
-      ap₂ (λ (c : Bool) (r : Answer). cond c (Done zeros) r) (or-comm (eqb (x .b1) 0) (eqb (y .b1) 0))
-      (ap₂ (λ (k p : ℕ). endedProduct (signOfTwo x y) (productMantissa p) (k + 256 - taken p)) (add-comm (x .b1) (y .b1)) (mul-comm (mantissa x) (mantissa y))
-      ∙ ap (λ (s : ℕ). endedProduct s (productMantissa (mantissa y * mantissa x)) (y .b1 + x .b1 + 256 - taken (mantissa y * mantissa x))) signs-commute)
-
-pub product-commutes : (x y : Number) → productOf x y ≡ productOf y x
-unfolding productOf
-product-commutes x y =
-    let v = mul-comm (shortMagnitude x) (shortMagnitude y) in
-    ap₂ (λ (c : Bool) (r : Answer). cond c r (restackedProduct (restacked x) (restacked y)))
-    (ap₂ (λ (c : Bool) (k : ℕ). c && leb k 65535) (and-comm (eqb (x .b1) 0) (eqb (y .b1) 0)) v)
-    (ap₂ (λ (s k : ℕ). Done (shortStored s k)) (signs-commute x y) v)
-    ∙ ap (λ (r : Answer). cond (staysShort y x) (Done (shortStored (signOfTwo y x) (shortProduct y x))) r) (restacked-commutes (restacked x) (restacked y))
