@@ -1,5 +1,5 @@
--- Multiplication's laws: a law for each way through the definition, and the mantissa and exponent as the code finds them.
-use mathlib.Core.Path.{_≡_, refl, sym, _∙_, ap, ap₂}
+-- Multiplication's laws: a law for each way through the definition, and what P and the mantissa lie between.
+use mathlib.Core.Path.{_≡_, refl, _∙_, ap, ap₂}
 use mathlib.Core.Bool.{Bool, true, false, cond, and-eq-true-iff}
 use Prim.Native.Nat.{ℕ, _+_, _*_, _-_, _^_, _/_, _%_, _≤_, _<_}
 use native.Mathlib.Nat.{mul-le-mul}
@@ -93,24 +93,6 @@ module _ (x y : Number) (f : IsFull x) (g : IsFull y) where
       go true e = omega (arith, leb-true (2 ^ 63) p e, bounds)
       go false e = omega (arith, leb-false (2 ^ 63) p e, bounds)
 
-  -- E, by the digit that says whether P is at least 2^63
-  exponent : x .b1 + y .b1 + 256 - taken p ≡ x .b1 + y .b1 + 127 + p / 2 ^ 63
-  exponent = go (leb (2 ^ 63) p) refl
-    where
-      go : (b : Bool) → leb (2 ^ 63) p ≡ b → x .b1 + y .b1 + 256 - cond b 128 129 ≡ x .b1 + y .b1 + 127 + p / 2 ^ 63
-      go true e = omega (arith, leb-true (2 ^ 63) p e, bounds)
-      go false e = omega (arith, leb-false (2 ^ 63) p e, bounds)
-
-  module _ (e : ℕ) (i : e ≡ x .b1 + y .b1 + 127 + p / 2 ^ 63) where
-    pub is-ended : restackedProduct x y ≡ endedProduct (signOfTwo x y) (productMantissa p) e
-    unfolding fullProduct
-    is-ended = neither x y (omega arith) (omega arith) ∙ ap (endedProduct (signOfTwo x y) (productMantissa p)) (exponent ∙ sym i)
-
-    pub product-low : e ≤ 256 → (t : ℕ) → restackedProduct x y ≡ closed (signOfTwo x y) (loose t e 0)
-    product-low h t = is-ended ∙ ended-low (signOfTwo x y) (productMantissa p) t e h
-
-    pub product-high : 256 < e → (m : ℕ) → m ≡ productMantissa p → restackedProduct x y ≡ closed (signOfTwo x y) (loose (m % 2 ^ 31) (e + m / 2 ^ 32) 0)
-    product-high h m j =
-        is-ended
-        ∙ ended-high (signOfTwo x y) (productMantissa p) e h (mantissa-bounds .1)
-        ∙ ap (λ (k : ℕ). closed (signOfTwo x y) (loose (k % 2 ^ 31) (e + k / 2 ^ 32) 0)) (sym j)
+  pub is-ended : restackedProduct x y ≡ endedProduct (signOfTwo x y) (productMantissa p) (x .b1 + y .b1 + 256 - taken p)
+  unfolding fullProduct
+  is-ended = neither x y (omega arith) (omega arith)

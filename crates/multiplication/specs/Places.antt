@@ -1,21 +1,21 @@
 -- A product as the code takes it: of whole numbers that need not be made normal first. It has so many places to its top bit, of 64, and the exponent is lower by
 -- as many.
 use Prim.Native.Nat.{ℕ, suc, _+_, _*_, _-_, _^_, _/_, _%_, _≤_, _<_}
-use mathlib.Core.Path.{_≡_, refl, sym, _∙_, ap, ap₂, subst}
+use mathlib.Core.Path.{_≡_, refl, sym, _∙_, ap, ap₂}
 use mathlib.Core.Logic.{_⊎_, inl, inr}
 use mathlib.Core.Bool.{Bool, true, false, cond}
-use native.Mathlib.Nat.{le-trans, le-of-eq, mul-assoc, mul-le-mul, mul-le-mul-left, mul-le-mul-right, pow-suc, eq-zero-or-pos, mul-zero}
+use native.Mathlib.Nat.{le-trans, mul-assoc, mul-le-mul, mul-le-mul-left, pow-suc, eq-zero-or-pos, mul-zero}
 use native.Mathlib.Omega.{arith}
 use borrow.Author.Tests.{eq-eqb, ne-eqb, leb-true, leb-false}
 use lib.Dec.{leb, eqb}
 use lib.Count.{leadingZeros, leading-top}
-use lib.Pow.{pow-add, pow-mono, pow-pos, shl-lt}
+use lib.Pow.{pow-add, pow-mono, pow-pos}
 use Rattle.number.specs.declared.Number.{Number}
 use Rattle.number.specs.Number.{zeros, sign, mantissa, shortMagnitude}
 use Rattle.number.specs.NumberLaws.{Bytes, magnitude-lt}
 use Rattle.number.specs.Restack.{fullOfShort, restacked}
 use Rattle.number.specs.RestackLaws.{restack-full, restack-some, restack-zero}
-use Rattle.number.specs.RestackValue.{full-of-short}
+use Rattle.number.specs.RestackValue.{top-set, full-of-short}
 use Rattle.ending.specs.declared.answer.Answer.{Answer}
 use Rattle.ending.specs.declared.answer.Answer.the-variants.{Done}
 use Rattle.division.specs.Demand3.{nearest}
@@ -27,7 +27,7 @@ use Rattle.multiplication.specs.MultiplicationLaws.{bounds, is-ended, pr
 abbrev pub roundedAt : ℕ → ℕ → ℕ
 roundedAt p z = (p * 2 ^ z / 2 ^ 31 + 1) / 2
 
--- p times 2^e, with the ending's 256 and less the 128 of A1
+-- p times 2^(e - 320), where e is a sum of two exponent bytes: A1's 128 is taken from it, and the ending's 256 is added.
 unfoldable pub productAt : ℕ → ℕ → ℕ → Answer
 productAt s p e = cond (eqb p 0) (Done zeros) (endedProduct s (roundedAt p (leadingZeros 64 p)) (e + 128 - leadingZeros 64 p))
 
@@ -42,20 +42,7 @@ module _ (s p e : ℕ) where
 
 -- ---- the places to the top bit, of k
 
--- so many set it
-pub top-set : (k p : ℕ) → 0 < p → p < 2 ^ suc k → (2 ^ k ≤ p * 2 ^ leadingZeros (suc k) p) × (p * 2 ^ leadingZeros (suc k) p < 2 ^ suc k) × (leadingZeros (suc k) p ≤ k)
-top-set k p h g =
-    let z = leadingZeros (suc k) p in
-    let t = leading-top (suc k) p h g in
-    let j = t .0 in
-    let top : k ≡ j + z = omega (arith, t .1) in
-    let past : suc j + z ≡ suc k = omega (arith, t .1) in (
-      le-trans (le-of-eq (ap (λ (i : ℕ). 2 ^ i) top ∙ pow-add 2 j z)) (mul-le-mul-right (2 ^ z) (t .2)),
-      subst (λ (i : ℕ). p * 2 ^ z < 2 ^ i) past (shl-lt {a = p} (suc j) z (t .3)),
-      omega (arith, t .1),
-    )
-
--- and no other number does
+-- the zeros above it set it (`top-set`), and no other number of places does
 fewer : (k p a b : ℕ) → 2 ^ k ≤ p * 2 ^ a → p * 2 ^ b < 2 ^ suc k → ¬ (a < b)
 fewer k p a b l h g =
     omega (arith, mul-le-mul-left p (pow-mono {i = suc a} {j = b} g), ap (λ (i : ℕ). p * i) (pow-suc 2 a), mul-assoc p (2 ^ a) 2, pow-suc 2 k)
@@ -70,25 +57,25 @@ places-are k p a h l lo hi =
 -- ---- of two full numbers
 
 pub at-full : (x y : Number) → IsFull x → IsFull y → restackedProduct x y ≡ productAt (signOfTwo x y) (mantissa x * mantissa y) (x .b1 + y .b1)
-at-full x y f g = is-ended x y f g (x .b1 + y .b1 + 127 + p / 2 ^ 63) refl ∙ go (leb (2 ^ 63) p) refl
+at-full x y f g = is-ended x y f g ∙ go (leb (2 ^ 63) p) refl
   where
     p : ℕ
     p = mantissa x * mantissa y
 
     go : (b : Bool) → leb (2 ^ 63) p ≡ b
-        → endedProduct (signOfTwo x y) (cond b (nearest p (2 ^ 32)) (nearest p (2 ^ 31))) (x .b1 + y .b1 + 127 + p / 2 ^ 63) ≡ productAt (signOfTwo x y) p (x .b1 + y .b1)
+        → endedProduct (signOfTwo x y) (cond b (nearest p (2 ^ 32)) (nearest p (2 ^ 31))) (x .b1 + y .b1 + 256 - cond b 128 129) ≡ productAt (signOfTwo x y) p (x .b1 + y .b1)
     go true i =
         let large = leb-true (2 ^ 63) p i in
         let bound = bounds x y f g in
         let same : nearest p (2 ^ 32) ≡ roundedAt p 0 = omega arith in
-        let lower : x .b1 + y .b1 + 127 + p / 2 ^ 63 ≡ x .b1 + y .b1 + 128 - 0 = omega arith in
+        let lower : x .b1 + y .b1 + 256 - 128 ≡ x .b1 + y .b1 + 128 - 0 = omega arith in
         ap₂ (endedProduct (signOfTwo x y)) same lower
         ∙ sym (at-some (signOfTwo x y) p (x .b1 + y .b1) (omega arith) 0 (places-are 63 p 0 (omega arith) (omega arith) (omega arith) (omega arith)))
     go false i =
         let small = leb-false (2 ^ 63) p i in
         let bound = bounds x y f g in
         let same : nearest p (2 ^ 31) ≡ roundedAt p 1 = omega arith in
-        let lower : x .b1 + y .b1 + 127 + p / 2 ^ 63 ≡ x .b1 + y .b1 + 128 - 1 = omega arith in
+        let lower : x .b1 + y .b1 + 256 - 129 ≡ x .b1 + y .b1 + 128 - 1 = omega arith in
         ap₂ (endedProduct (signOfTwo x y)) same lower
         ∙ sym (at-some (signOfTwo x y) p (x .b1 + y .b1) (omega arith) 1 (places-are 63 p 1 (omega arith) (omega arith) (omega arith) (omega arith)))
 

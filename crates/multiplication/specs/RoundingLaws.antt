@@ -21,7 +21,7 @@ use Rattle.ending.specs.EndingLaws.{closed-too-big, closed-too-big-only, closed
 use Rattle.division.specs.Demand3.{nearest}
 use Rattle.division.specs.Operand.{IsFull, restacked-full}
 use Rattle.multiplication.specs.Multiplication.{bothShort, shortProduct, staysShort, shortStored, signOfTwo, taken, productMantissa, restackedProduct, productOf}
-use Rattle.multiplication.specs.MultiplicationLaws.{both-zero, product-restacked, product-beyond, bounds, mantissa-bounds, product-low, product-high, zero-first, zero-second}
+use Rattle.multiplication.specs.MultiplicationLaws.{both-zero, product-restacked, product-beyond, bounds, mantissa-bounds, is-ended, ended-low, ended-high, zero-first, zero-second}
 use Rattle.multiplication.specs.ShortProduct.{product-some, full-route-exact}
 use Rattle.multiplication.specs.Rounding.{Overflows, ProductTooBig, Rounded, Result, Products}
 
@@ -41,9 +41,9 @@ module _ (x y : Number) (f : IsFull x) (g : IsFull y) where
   abbrev s : ℕ
   s = signOfTwo x y
 
-  -- the exponent + 256, before the rounding and with its carry
+  -- the exponent + 256, before the rounding
   abbrev e : ℕ
-  e = x .b1 + y .b1 + 127 + p / 2 ^ 63
+  e = x .b1 + y .b1 + 256 - taken p
 
   abbrev m : ℕ
   m = productMantissa p
@@ -52,7 +52,6 @@ module _ (x y : Number) (f : IsFull x) (g : IsFull y) where
   record Carry : Type 0 where
     over : (511 < e + m / 2 ^ 32) ↔ Overflows (x .b1) (y .b1) p
     stored : (n : ℕ) → n + 256 ≡ e + m / 2 ^ 32 → Rounded (x .b1) (y .b1) p (fullOf s n (m % 2 ^ 31))
-    before : e ≡ x .b1 + y .b1 + 256 - taken p
 
   carry : Carry
   carry = go (leb (2 ^ 63) p) refl
@@ -73,30 +72,24 @@ module _ (x y : Number) (f : IsFull x) (g : IsFull y) where
           let is : m ≡ nearest p (2 ^ 32) = simp i in
           let less : taken p ≡ 128 = simp i in
           let most = bounds x y f g in
-          let one : p / 2 ^ 63 ≡ 1 = omega arith in
           let none : m / 2 ^ 32 ≡ 0 = omega arith in
           let low : 2 ^ 31 ≤ m = omega arith in
           let high : m < 2 ^ 32 = omega arith in
           record {
             over = ((λ h. ⊎-elim inl (λ q. inr (q, omega arith)) (sum-cases (omega arith))), ⊎-elim (λ h. omega arith) (λ h. omega arith));
             stored = λ n h. inl (omega arith, kept s n m low high ∙ is);
-            before = omega arith;
           }
       go false i =
           let small = leb-false (2 ^ 63) p i in
           let is : m ≡ nearest p (2 ^ 31) = simp i in
           let less : taken p ≡ 129 = simp i in
-          let most = bounds x y f g in
-          let none : p / 2 ^ 63 ≡ 0 = omega arith in
-          let low : 2 ^ 31 ≤ m = omega arith in
-          let high : m ≤ 2 ^ 32 = omega arith in
+          let high = mantissa-bounds x y f g .1 in
           record {
             over = (
               (λ h. ⊎-elim inl (λ q. inr (q, omega arith)) (sum-cases (omega arith))),
               ⊎-elim (λ h. omega arith) (λ h. let up : m ≡ 2 ^ 32 = omega arith in omega arith),
             );
-            stored = λ n h. by (eqb m (2 ^ 32)) refl n h;
-            before = omega arith;
+            stored = by (eqb m (2 ^ 32)) refl;
           }
         where
           by : (b : Bool) → eqb m (2 ^ 32) ≡ b → (n : ℕ) → n + 256 ≡ e + m / 2 ^ 32 → Rounded (x .b1) (y .b1) p (fullOf s n (m % 2 ^ 31))
@@ -104,20 +97,20 @@ module _ (x y : Number) (f : IsFull x) (g : IsFull y) where
               let small = leb-false (2 ^ 63) p i in
               let is : m ≡ nearest p (2 ^ 31) = simp i in
               let up = eqb-true m (2 ^ 32) j in
-              let none : p / 2 ^ 63 ≡ 0 = omega arith in
+              let less : taken p ≡ 129 = simp i in
               let near : nearest p (2 ^ 32) ≡ 2 ^ 31 = omega arith in
               inl (omega arith, all-clear s n m up ∙ sym near)
           by false j n h =
               let small = leb-false (2 ^ 63) p i in
               let is : m ≡ nearest p (2 ^ 31) = simp i in
               let most = mantissa-bounds x y f g in
-              let less : m < 2 ^ 32 = omega (arith, eqb-false m (2 ^ 32) j) in
-              let none : p / 2 ^ 63 ≡ 0 = omega arith in
-              inr (omega arith, kept s n m (most .0) less ∙ is)
+              let below : m < 2 ^ 32 = omega (arith, eqb-false m (2 ^ 32) j) in
+              let less : taken p ≡ 129 = simp i in
+              inr (omega arith, kept s n m (most .0) below ∙ is)
 
   -- E of 1 or more
   high-closed : 256 < e → restackedProduct x y ≡ closed s (loose (m % 2 ^ 31) (e + m / 2 ^ 32) 0)
-  high-closed h = product-high x y f g e refl h m refl
+  high-closed h = is-ended x y f g ∙ ended-high s m e h (mantissa-bounds x y f g .1)
 
   -- The full route, whether or not it is taken: its number is full.
   full-result : (E : ℕ) → E + taken p ≡ x .b1 + y .b1 → 1 ≤ E → ¬ Overflows (x .b1) (y .b1) p
@@ -125,7 +118,7 @@ module _ (x y : Number) (f : IsFull x) (g : IsFull y) where
   full-result E h one fit =
       let c = carry in
       let n = e + m / 2 ^ 32 - 256 in
-      let is : e ≡ E + 256 = omega (arith, c .before) in
+      let is : e ≡ E + 256 = omega arith in
       let fits : ¬ (511 < e + m / 2 ^ 32) = λ o. fit (c .over .0 o) in
       let number = fullOf s n (m % 2 ^ 31) in (
         number,
@@ -148,7 +141,7 @@ module _ (x y : Number) (f : IsFull x) (g : IsFull y) where
       by true i h = carry .over .0 (closed-too-big-only s (loose (m % 2 ^ 31) (e + m / 2 ^ 32) 0) (sym (high-closed (ltb-true _ _ i)) ∙ h))
       by false i h =
           let low = ltb-false 256 e i in
-          absurd (omega (arith, closed-too-big-only s (loose 0 e 0) (sym (product-low x y f g e refl low 0) ∙ h)))
+          absurd (omega (arith, closed-too-big-only s (loose 0 e 0) (sym (is-ended x y f g ∙ ended-low s m 0 e low) ∙ h)))
 
 -- ---- of any two, neither counting as zero
 

@@ -6,7 +6,7 @@ use native.Mathlib.Nat.{le-trans, le-of-eq, mul-assoc, mul-le-mul-right, eq-zero
 use native.Mathlib.Omega.{arith}
 use lib.Count.{leadingZeros, leading-top}
 use lib.IntN.{ℤ, pos, _*ℤ_}
-use lib.Pow.{pow-add, pow-mono, shl-lt}
+use lib.Pow.{pow-add, shl-lt}
 use Rattle.number.specs.declared.Number.{Number}
 use Rattle.number.specs.Number.{sign, mantissa, fullOf, shortMagnitude, zeros}
 use Rattle.number.specs.NumberLaws.{Bytes, mantissa-full, sign-full, magnitude-lt}
@@ -14,6 +14,19 @@ use Rattle.number.specs.Value.{signed, shortValue, fullValue}
 use Rattle.number.specs.ValueLaws.{short-value, signed-times}
 use Rattle.number.specs.Restack.{fullOfShort, restacked}
 use Rattle.number.specs.RestackLaws.{restack-full, restack-some, restack-zero}
+
+-- the places to the top bit, of so many, are the zeros above it
+pub top-set : (k v : ℕ) → 0 < v → v < 2 ^ suc k → (2 ^ k ≤ v * 2 ^ leadingZeros (suc k) v) × (v * 2 ^ leadingZeros (suc k) v < 2 ^ suc k) × (leadingZeros (suc k) v ≤ k)
+top-set k v h g =
+    let z = leadingZeros (suc k) v in
+    let t = leading-top (suc k) v h g in
+    let j = t .0 in
+    let top : k ≡ j + z = omega (arith, t .1) in
+    let past : suc j + z ≡ suc k = omega (arith, t .1) in (
+      le-trans (le-of-eq (ap (λ (i : ℕ). 2 ^ i) top ∙ pow-add 2 j z)) (mul-le-mul-right (2 ^ z) (t .2)),
+      subst (λ (i : ℕ). v * 2 ^ z < 2 ^ i) past (shl-lt {a = v} (suc j) z (t .3)),
+      omega (arith, t .1),
+    )
 
 -- The full number that stands for v, 1 to 65,535: sign, mantissa, and mantissa times 2^b1 is v times 2^160.
 pub record Stands (s v : ℕ) (y : Number) : Type 0 where
@@ -26,19 +39,13 @@ pub full-of-short : (s v : ℕ) → s < 2 → 0 < v → v < 2 ^ 16 → Stands s 
 unfolding fullOfShort
 full-of-short s v hs h g =
     let z = leadingZeros 32 v in
-    let t = leading-top 32 v h (lt-of-lt-of-le g (omega arith)) in
-    let j = t .0 in
+    let t = top-set 31 v h (lt-of-lt-of-le g (omega arith)) in
     let m = v * 2 ^ z in
-    let top : 31 ≡ j + z = omega (arith, t .1) in
-    let past : suc j + z ≡ 32 = omega (arith, t .1) in
-    let small : ¬ (16 ≤ j) = λ f. omega (arith, le-trans (pow-mono {i = 16} {j = j} f) (t .2)) in
-    let all : z + (160 - z) ≡ 160 = omega (arith, t .1) in
-    let lo : 2 ^ 31 ≤ m = le-trans (le-of-eq (ap (λ (k : ℕ). 2 ^ k) top ∙ pow-add 2 j z)) (mul-le-mul-right (2 ^ z) (t .2)) in
-    let hi : m < 2 ^ 32 = subst (λ (k : ℕ). m < 2 ^ k) past (shl-lt {a = v} (suc j) z (t .3)) in
-    let same : mantissa (fullOf s (160 - z) m) ≡ m = mantissa-full s (160 - z) m lo hi in
+    let all : z + (160 - z) ≡ 160 = omega arith in
+    let same : mantissa (fullOf s (160 - z) m) ≡ m = mantissa-full s (160 - z) m (t .0) (t .1) in
     record {
       signs = sign-full s (160 - z) m hs;
-      low-exponent = omega (arith, t .1);
+      low-exponent = omega arith;
       exact = same;
       worth =
           ap (λ (k : ℕ). k * 2 ^ (160 - z)) same
