@@ -1,11 +1,7 @@
 // One operation on the stack: the report that comes first, or the bytes and the depth that the literal leaves.
 use literals::table;
 use slots::Outcome;
-ghost use Prim.Native.Nat.{ℕ};
 ghost use mathlib.Core.Path.{_≡_};
-ghost use mathlib.Core.Bool.{true};
-ghost use Rattle.literals.specs.Literals.{operationOf};
-ghost use Rattle.literals.specs.Reports.{notInTable};
 ghost use Rattle.literals.specs.Operate.{operateOf, outcome};
 
 pub fn operate(stack: &mut [u8], depth: usize, literal: u8) -> Outcome
@@ -25,7 +21,7 @@ pub fn operate_in_place(stack: &mut [u8], depth: &mut usize, literal: u8) -> u8
 {
     match literal {
         // With an entry for 0, the literal is the index of the jump table as it is.
-        0 => unknown(stack, *depth),
+        0 => literals::unknown(stack, *depth),
         table::EXCHANGE => moving::exchange(stack, depth),
         table::DELETE => moving::delete(stack, depth),
         table::SUBTRACT => binary::subtract(stack, depth),
@@ -37,16 +33,6 @@ pub fn operate_in_place(stack: &mut [u8], depth: &mut usize, literal: u8) -> u8
         table::DUPLICATE => moving::duplicate(stack, depth),
         table::TRUNCATE => unary::truncate(stack, depth),
         table::RE_STACK => unary::re_stack(stack, depth),
-        _ => unknown(stack, *depth),
+        _ => literals::unknown(stack, *depth),
     }
-}
-
-// A literal that is in no row.
-pub(crate) fn unknown(stack: &[u8], depth: usize) -> u8
-    ensures { λ r. ⌜ ((l : ℕ) → notInTable (operationOf l) ≡ true → operateOf (now (stack .entry)) depth l ≡ (outcome r depth, now (stack .entry))) ⌝ }
-{
-    if slots::over_limits(stack, depth) {
-        return 1;
-    }
-    5 // not in the table
 }

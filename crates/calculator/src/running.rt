@@ -1,5 +1,4 @@
 // A run: a list of literals, done in turn until one is refused.
-use crate::operation::unknown;
 use crate::outcome::RunOutcome;
 use literals::table;
 ghost use mathlib.Core.Path.{_≡_};
@@ -57,7 +56,7 @@ fn step(stack: &mut [u8], depth: &mut usize, literal: u8) -> u8
     ensures { λ r. ⌜ operateOf (now (stack .entry)) (now (depth .entry)) literal ≡ (outcome r (now (depth .exit)), now (stack .exit)) ⌝ }
 {
     match literal {
-        0 => unknown(stack, *depth),
+        0 => literals::unknown(stack, *depth),
         table::EXCHANGE => moving::exchange(stack, depth),
         table::DELETE => moving::delete(stack, depth),
         table::SUBTRACT => binary::subtract(stack, depth),
@@ -69,6 +68,6 @@ fn step(stack: &mut [u8], depth: &mut usize, literal: u8) -> u8
         table::DUPLICATE => moving::duplicate(stack, depth),
         table::TRUNCATE => unary::truncate(stack, depth),
         table::RE_STACK => unary::re_stack(stack, depth),
-        _ => unknown(stack, *depth),
+        _ => literals::unknown(stack, *depth),
     }
 }

@@ -6,14 +6,9 @@ use native.Mathlib.Omega.{arith}
 use lib.ListN.{length, getD, take, drop, List·getD-append}
 use lib.Seq.{drop-at, take-at, length-take-le, getD-drop, getD-set-other}
 use Rattle.number.specs.declared.Number.{Number}
-use Rattle.number.specs.Number.{b2, b3, b4, b5, wordOf}
-use Rattle.number.specs.NumberLaws.{places}
+use Rattle.number.specs.NumberLaws.{word-of}
 use Rattle.slots.specs.Slots.{slot, numberIn, bytesOf, putSlot}
 use Rattle.slots.specs.SlotLaws.{five-stores, slot-five, five-of}
-
--- the four bytes of a word make the word
-word-of : (n : Number) → wordOf (b2 n) (b3 n) (b4 n) (b5 n) ≡ n .word
-word-of n = omega (arith, places (n .word))
 
 module _ (s : List ℕ) (i : ℕ) (h : 5 * i + 5 ≤ length s) where
   pub length-slot : length (slot s i) ≡ 5

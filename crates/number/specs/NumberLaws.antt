@@ -8,7 +8,7 @@ use native.Mathlib.Omega.{arith}
 use borrow.Author.Tests.{eqb-true, eqb-false, eq-eqb, ne-eqb}
 use lib.Dec.{eqb}
 use Rattle.number.specs.declared.Number.{Number}
-use Rattle.number.specs.Number.{b2, b3, b4, wordOf, swappedOf, sign, mantissa, fullOf, low, complementOf, shortMagnitude, halves, passesZeroTest}
+use Rattle.number.specs.Number.{b2, b3, b4, b5, wordOf, swappedOf, sign, mantissa, fullOf, low, complementOf, shortMagnitude, halves, passesZeroTest}
 
 pub record Bytes (x : Number) : Type 0 where
   pub b1< : x .b1 < 256
@@ -23,6 +23,10 @@ sign-full s e m h = omega arith
 -- the next byte up
 pub places : (w : ℕ) → (w / 2 ^ 16 ≡ w / 2 ^ 8 / 2 ^ 8) × (w / 2 ^ 24 ≡ w / 2 ^ 16 / 2 ^ 8)
 places w = (sym (div-div-eq-div-mul w (2 ^ 8) (2 ^ 8)), sym (div-div-eq-div-mul w (2 ^ 16) (2 ^ 8)))
+
+-- a word is made of its bytes
+pub word-of : (n : Number) → wordOf (b2 n) (b3 n) (b4 n) (b5 n) ≡ n .word
+word-of n = omega (arith, places (n .word))
 
 -- the bytes that a word is made of
 pub word-bytes : (b c d e : ℕ) → b < 256 → c < 256 → d < 256 → e < 256

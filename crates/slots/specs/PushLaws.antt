@@ -93,10 +93,11 @@ one p h = number-at p 1 0 (enough p 1 1 (record { short = omega arith; deep = om
 pub alone : (p : List ℕ) → length p ≡ 5 → malformed (numberAt p 1 0) ≡ malformed (numberIn p 0)
 alone p h = ap malformed (one p h)
 
+-- whose bytes they are
+pub alone-bytes : (p : List ℕ) → length p ≡ 5 → ((k : ℕ) → getD p k 0 < 256) → bytesOf (numberAt p 1 0) ≡ p
+alone-bytes p h b = ap bytesOf (one p h) ∙ bytes-of-slot p 0 (omega arith) b ∙ slot-five p 0 (omega arith) ∙ five-of p h
+
 -- and put onto the stack as they are
 pub put-alone : (s : List ℕ) (d : ℕ) (p : List ℕ) → lacking s d 1 ≡ false → length p ≡ 5 → ((k : ℕ) → getD p k 0 < 256)
     → putAt s d 0 (numberAt p 1 0) ≡ putSlot s (d - 1) p
-put-alone s d p a h b =
-    put-there s d 0 (numberAt p 1 0) a
-    ∙ ap (λ (n : Number). putSlot s (d - 1) (bytesOf n)) (one p h)
-    ∙ ap (putSlot s (d - 1)) (bytes-of-slot p 0 (omega arith) b ∙ slot-five p 0 (omega arith) ∙ five-of p h)
+put-alone s d p a h b = put-there s d 0 (numberAt p 1 0) a ∙ ap (putSlot s (d - 1)) (alone-bytes p h b)

@@ -1,0 +1,132 @@
+-- Laws of a recording: when two lists are the same, where a record's bytes stand, and the test of a recording, a law a way out.
+use Prim.Native.Nat.{ℕ, suc, _+_, _-_, _*_, _%_, _≤_, _<_}
+use mathlib.Core.Path.{_≡_, refl, sym, _∙_, ap}
+use mathlib.Core.Bool.{Bool, true, false, true≢false, false≢true, not, _&&_, and-eq-true-iff}
+use mathlib.Core.List.{List, [], _∷_}
+use native.Mathlib.Omega.{arith}
+use native.Mathlib.Numerals.{towards-suc}
+use lib.Dec.{eqb, ltb}
+use lib.ListN.{length, getD, take, drop, length-take, length-drop, drop-of-length-le}
+use lib.Seq.{drop-cons, drop-drop, getD-drop, getD-take, take-all}
+use borrow.Author.Tests.{lt-ltb, le-ltb, ltb-true, ltb-false, eq-eqb, ne-eqb, eqb-true}
+use Rattle.recording.specs.Recording.{topIn, restIn, first, later, records, same, zeros, stray, notARecording}
+
+pub same-refl : (xs : List ℕ) → same xs xs ≡ true
+unfolding same
+same-refl [] = refl
+same-refl (x ∷ xs) = simp (eq-eqb x x refl, same-refl xs)
+
+pub same-true : (xs ys : List ℕ) → same xs ys ≡ true → xs ≡ ys
+unfolding same
+same-true [] [] h = refl
+same-true [] (y ∷ ys) h = absurd (false≢true h)
+same-true (x ∷ xs) [] h = absurd (false≢true h)
+same-true (x ∷ xs) (y ∷ ys) h =
+    let p = and-eq-true-iff (eqb x y) (same xs ys) .0 h in
+    rw (eqb-true x y (p .0), same-true xs ys (p .1)) refl
+
+-- a test that holds exactly where two lists are equal says whether they are the same
+pub same-by : (b : Bool) {xs ys : List ℕ} → (b ≡ true → xs ≡ ys) → (xs ≡ ys → b ≡ true) → b ≡ same xs ys
+same-by true {xs} {ys} f g = sym (ap (same xs) (sym (f refl)) ∙ same-refl xs)
+same-by false {xs} {ys} f g = go (same xs ys) refl
+  where
+    go : (t : Bool) → same xs ys ≡ t → false ≡ t
+    go true e = g (same-true xs ys e)
+    go false e = refl
+
+-- the records after record i
+pub next-record : (r : List ℕ) (i : ℕ) → later (drop (16 * i) r) ≡ drop (16 * (i + 1)) r
+next-record r i = let e : 16 * i + 16 ≡ 16 * (i + 1) = omega arith in rw (drop-drop 16 (16 * i) r, e) refl
+
+-- bytes 9 to 15 of a record that is whole
+module _ (r : List ℕ) (i : ℕ) (h : 16 * i + 16 ≤ length r) where
+  abbrev here : List ℕ
+  here = first (drop (16 * i) r)
+
+  long : length here ≡ 16
+  long = simp (length-take, length-drop) (omega arith)
+
+  byte-in : (k : ℕ) → k < 16 → getD here k 0 ≡ getD r (16 * i + k) 0
+  byte-in k g = getD-take 16 (drop (16 * i) r) k 0 g ∙ getD-drop (16 * i) r k 0
+
+  abbrev b : ℕ → ℕ
+  b k = getD r (16 * i + k) 0
+
+  rest-is : restIn here ≡ b 9 ∷ b 10 ∷ b 11 ∷ b 12 ∷ b 13 ∷ b 14 ∷ b 15 ∷ []
+  rest-is =
+      rw (
+        drop-cons here 9 0 (omega (arith, long)),
+        drop-cons here 10 0 (omega (arith, long)),
+        drop-cons here 11 0 (omega (arith, long)),
+        drop-cons here 12 0 (omega (arith, long)),
+        drop-cons here 13 0 (omega (arith, long)),
+        drop-cons here 14 0 (omega (arith, long)),
+        drop-cons here 15 0 (omega (arith, long)),
+        byte-in 9 (omega arith),
+        byte-in 10 (omega arith),
+        byte-in 11 (omega arith),
+        byte-in 12 (omega arith),
+        byte-in 13 (omega arith),
+        byte-in 14 (omega arith),
+        byte-in 15 (omega arith),
+      ) refl
+
+  -- with byte 8 below them they make a number, which is a byte exactly where they are zero
+  pub stray-by : b 8 < 256 → (j : ℕ)
+      → j ≡ b 8 + 256 * b 9 + 65536 * b 10 + 16777216 * b 11 + 4294967296 * b 12 + 1099511627776 * b 13 + 281474976710656 * b 14 + 72057594037927936 * b 15
+      → ltb 255 j ≡ not (same (restIn here) (zeros 7))
+  stray-by l j e = go (ltb 255 j) refl
+    where
+      go : (t : Bool) → ltb 255 j ≡ t → t ≡ not (same (restIn here) (zeros 7))
+      go true g =
+          ap not
+          (same-by false (λ z. absurd (false≢true z))
+          (λ z.
+          let all = sym rest-is ∙ z in
+          let zero : (k : ℕ) → getD (b 9 ∷ b 10 ∷ b 11 ∷ b 12 ∷ b 13 ∷ b 14 ∷ b 15 ∷ []) k 0 ≡ getD (zeros 7) k 0 = λ k. ap (λ (x : List ℕ). getD x k 0) all in
+          absurd (omega (arith, ltb-true 255 j g, zero 0, zero 1, zero 2, zero 3, zero 4, zero 5, zero 6))))
+      go false g =
+          let small = ltb-false 255 j g in
+          let z : (b 9 ≡ 0) × (b 10 ≡ 0) × (b 11 ≡ 0) × (b 12 ≡ 0) × (b 13 ≡ 0) × (b 14 ≡ 0) × (b 15 ≡ 0) =
+              (omega arith, omega arith, omega arith, omega arith, omega arith, omega arith, omega arith) in
+          ap not (same-by true (λ t. rest-is ∙ rw (z .0, z .1, z .2, z .3, z .4, z .5, z .6) refl) (λ t. refl))
+
+-- the test of the records that are left
+module _ (r : List ℕ) (n i : ℕ) where
+  pub none-stray : n ≤ i → stray (n - i) (drop (16 * i) r) ≡ false
+  unfolding stray
+  none-stray h = let e : n - i ≡ 0 = omega arith in rw e refl
+
+  module _ (k : i < n) where
+    one-more : n - i ≡ suc (n - (i + 1))
+    one-more = omega arith
+
+    pub found-stray : true ≡ not (same (restIn (first (drop (16 * i) r))) (zeros 7)) → stray (n - i) (drop (16 * i) r) ≡ true
+    unfolding stray
+    found-stray h = rw one-more (simp (sym h))
+
+    pub next-stray : false ≡ not (same (restIn (first (drop (16 * i) r))) (zeros 7)) → stray (n - i) (drop (16 * i) r) ≡ stray (n - (i + 1)) (drop (16 * (i + 1)) r)
+    unfolding stray
+    next-stray h = rw one-more (simp (sym h) (ap (stray (n - (i + 1))) (next-record r i)))
+
+module _ (r : List ℕ) where
+  pub too-long : 64000 < length r → true ≡ notARecording r
+  unfolding notARecording
+  too-long h = simp (lt-ltb _ _ h)
+
+  module _ (l : length r ≤ 64000) where
+    pub part-record : (length r % 16 ≡ 0 → ⊥) → true ≡ notARecording r
+    unfolding notARecording
+    part-record h = simp (le-ltb _ _ l, ne-eqb _ _ h)
+
+    pub by-rest : length r % 16 ≡ 0 → stray (records r) r ≡ notARecording r
+    unfolding notARecording
+    by-rest h = simp (le-ltb _ _ l, eq-eqb _ _ h)
+
+-- the top of a record that is too short is what there is of it
+module _ (x : List ℕ) where
+  pub top-part : length x ≤ 9 → take (length x - 4) (drop 4 x) ≡ topIn x
+  top-part h = take-all (length x - 4) (drop 4 x) (omega (arith, length-drop 4 x)) ∙ sym (take-all 5 (drop 4 x) (omega (arith, length-drop 4 x)))
+
+  pub top-none : length x ≤ 4 → [] ≡ topIn x
+  top-none h = rw (drop-of-length-le x h) refl

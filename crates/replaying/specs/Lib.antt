@@ -1,0 +1,4 @@
+pub mod Replay
+pub mod ReplayLaws
+pub mod TopLaws
+pub mod Made
