@@ -88,7 +88,7 @@ module _ (r : List ℕ) (i : ℕ) (h : 16 * i + 16 ≤ length r) where
       go false g =
           let small = ltb-false 255 j g in
           let z : (b 9 ≡ 0) × (b 10 ≡ 0) × (b 11 ≡ 0) × (b 12 ≡ 0) × (b 13 ≡ 0) × (b 14 ≡ 0) × (b 15 ≡ 0) =
-              (omega arith, omega arith, omega arith, omega arith, omega arith, omega arith, omega arith) in
+          (omega arith, omega arith, omega arith, omega arith, omega arith, omega arith, omega arith) in
           ap not (same-by true (λ t. rest-is ∙ rw (z .0, z .1, z .2, z .3, z .4, z .5, z .6) refl) (λ t. refl))
 
 -- the test of the records that are left

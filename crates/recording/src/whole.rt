@@ -25,16 +25,17 @@ fn is_stray(recording: &[u8], i: usize) -> bool
     ensures { λ r. ⌜ r ≡ not (same (restIn (first (drop (16 * i) (now (recording .entry))))) (zeros 7)) ⌝ }
 {
     let at = 16 * i;
-    255 < joined(
-        recording[at + 8],
-        recording[at + 9],
-        recording[at + 10],
-        recording[at + 11],
-        recording[at + 12],
-        recording[at + 13],
-        recording[at + 14],
-        recording[at + 15],
-    )
+    255
+        < joined(
+            recording[at + 8],
+            recording[at + 9],
+            recording[at + 10],
+            recording[at + 11],
+            recording[at + 12],
+            recording[at + 13],
+            recording[at + 14],
+            recording[at + 15],
+        )
 }
 
 pub fn not_a_recording(recording: &[u8]) -> bool

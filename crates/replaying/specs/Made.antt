@@ -18,7 +18,7 @@ doneBy s d (literal l) = operateOf s d l
 
 -- the sixteen bytes: literal, report, depth, five bytes, and seven zeros
 abbrev pub recordWith : ℕ → ℕ → ℕ → List ℕ → List ℕ
-recordWith l report depth five = (l ∷ report ∷ depth % 256 ∷ depth / 256 ∷ []) ++ five ++ zeros 7
+recordWith l report depth five = (l ∷ report ∷ depth % 256 ∷ depth / 256 % 256 ∷ []) ++ five ++ zeros 7
 
 -- of a push the pushed bytes, and else the top slot after
 unfoldable pub recordOf : Step → Outcome × List ℕ → List ℕ

@@ -11,6 +11,10 @@ use Rattle.display.specs.declared.shown.Cell.{Cell}
 use Rattle.display.specs.declared.shown.Cell.the-variants.{Refused, Blank, Odd, Value}
 use Rattle.display.specs.Cell.{reportIn, Carried, nothing, number, carriedBy}
 use Rattle.slots.specs.View.{viewOf}
+use Rattle.replaying.specs.declared.answer.Verdict.{Verdict}
+use Rattle.replaying.specs.declared.answer.Verdict.the-variants.{Agree, Differ, Refused as Unread}
+use Rattle.replaying.specs.declared.answer.Field.{Field}
+use Rattle.replaying.specs.declared.answer.Field.the-variants.{Report, Depth, Top}
 
 -- the report that is returned, with the position and the depth that are written
 abbrev pub runOutcome : ℕ → ℕ → ℕ → RunOutcome
@@ -42,3 +46,15 @@ valueOr was (number x) = x
 -- What a case does not name stays as it was.
 unfoldable pub toldOf : Cell → ℕ → Float → ℕ × ℕ × Float
 toldOf c refused value = (kindOf c, cond (eqb (kindOf c) 0) (reportIn c) refused, valueOr value (carriedBy c))
+
+-- the interface's number for a field; 0 is none
+unfoldable pub fieldNumber : Field → ℕ
+fieldNumber Report = 1
+fieldNumber Depth = 2
+fieldNumber Top = 3
+
+-- What is returned of a replay, what then stands in *count, *field and *depth, and the stack.
+unfoldable pub replayTold : Verdict → ℕ → List ℕ → ℕ × ℕ × ℕ × ℕ × List ℕ
+replayTold (Agree n) depth s = (0, n, 0, depth, s)
+replayTold (Differ n f) depth s = (0, n, fieldNumber f, depth, s)
+replayTold (Unread n) depth s = (n, 0, 0, depth, s)

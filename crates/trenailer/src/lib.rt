@@ -1,12 +1,15 @@
-// The calculator for programs in other languages: include/trenailer.h declares these five functions. A slice passes as a pointer and a
+// The calculator for programs in other languages: include/trenailer.h declares these six functions. A slice passes as a pointer and a
 // length, and what a function answers beside its result goes out through a pointer.
 use calculator::Cell;
+use replaying::Field;
+use replaying::Verdict;
 ghost use mathlib.Core.Path.{_≡_};
 ghost use Rattle.slots.specs.Push.{pushOf};
 ghost use Rattle.display.specs.Cell.{cellOf};
 ghost use Rattle.literals.specs.Operate.{outcome, operateOf};
 ghost use Rattle.calculator.specs.Run.{runOf};
-ghost use Rattle.trenailer.specs.Told.{runOutcome, Part, toldOf};
+ghost use Rattle.replaying.specs.Replay.{replayOf};
+ghost use Rattle.trenailer.specs.Told.{runOutcome, Part, toldOf, fieldNumber, replayTold};
 
 #[no_mangle]
 pub extern "C" fn trenailer_operate(stack: &mut [u8], depth: &mut usize, literal: u8) -> u8
@@ -76,6 +79,50 @@ pub extern "C" fn trenailer_cell(
         Cell::Value(x) => {
             *value = x;
             3
+        }
+    }
+}
+
+fn field_number(field: Field) -> u8
+    ensures { λ r. ⌜ r ≡ fieldNumber field ⌝ }
+{
+    match field {
+        Field::Report => 1,
+        Field::Depth => 2,
+        Field::Top => 3,
+    }
+}
+
+// 0, or the number that refuses the recording.
+#[no_mangle]
+pub extern "C" fn trenailer_replay(
+    stack: &mut [u8],
+    recording: &[u8],
+    count: &mut usize,
+    field: &mut u8,
+    depth: &mut usize,
+) -> u8
+    ensures { λ r. ⌜ (let x = replayOf (now (stack .entry)) (now (recording .entry)) in
+        (r, now (count .exit), now (field .exit), now (depth .exit), now (stack .exit)) ≡ replayTold (x .0 .verdict) (x .0 .depth) (x .1)) ⌝ }
+{
+    let done = replaying::replay(stack, recording);
+    *depth = done.depth;
+    let verdict = done.verdict;
+    match verdict {
+        Verdict::Agree(n) => {
+            *count = n;
+            *field = 0;
+            0
+        }
+        Verdict::Differ(n, f) => {
+            *count = n;
+            *field = field_number(f);
+            0
+        }
+        Verdict::Refused(n) => {
+            *count = 0;
+            *field = 0;
+            n
         }
     }
 }

@@ -26,8 +26,8 @@ loop-again c =
     let a = c .before .before .before .before .before .before .before .before .before in
     let l = a .before .before .before .before .before .loop in (
       sym (agrees _ _ (l .i) _ _ (omega arith) _ _ (rw add-sub-cancel-left at (a .step .ensures)) (c .before .before .before .before .before .if4 .left ∙ rw add-sub-cancel-left at (c .before .before .before .before .before .before .report-in .ensures))
-      (c .before .before .before .if5 .left ∙ rw add-sub-cancel-left at (c .before .before .before .before .depth-in .ensures)) (rw add-sub-cancel-left at (sym (c .before .top-differs .ensures) ∙ c .if6 .left)))
-      ∙ l .inv .0,
+          (c .before .before .before .if5 .left ∙ rw add-sub-cancel-left at (c .before .before .before .before .depth-in .ensures)) (rw add-sub-cancel-left at (sym (c .before .top-differs .ensures) ∙ c .if6 .left)))
+          ∙ l .inv .0,
       a .step .kept .0 ∙ l .inv .1,
       omega arith,
       l .inv .3,
