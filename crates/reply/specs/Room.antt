@@ -18,34 +18,11 @@ use Rattle.sheet.specs.declared.meaning.Line.{Line}
 use Rattle.sheet.specs.declared.meaning.Line.the-variants.{Nothing, Push, Literal, Unreadable}
 use Rattle.sheet.specs.declared.meaning.Fault.{Fault}
 use Rattle.sheet.specs.declared.meaning.Fault.the-variants.{LongLine, BareNumber, BadPush, BadLiteral, NoStep}
-use Rattle.reply.specs.Answer.{topOf, stepAnswer, answerOf, writtenOf, faultOf, shownOf, complaint, complaintOf}
+use Rattle.wording.specs.Wording.{faultOf, placeOf}
+use Rattle.wording.specs.Room.{step-room, fault-length, place-length}
+use Rattle.reply.specs.Answer.{answerOf, writtenOf, complaint, complaintOf}
 use Rattle.reply.specs.Step.{stepOf}
 use Rattle.reply.specs.Following.{saidOf, Left, lineLeft}
-
-top-length : (bs : List ℕ) → length bs ≤ 5 → length (topOf bs) ≤ 15
-unfolding topOf
-top-length bs h = go (eqb (length bs) 0)
-  where
-    go : (t : Bool) → length (cond t (ascii " -") (eachOf (32 ∷ []) bs)) ≤ 15
-    go true = omega arith
-    go false = omega (arith, each-length (32 ∷ []) bs)
-
-step-room : (report depth : ℕ) (top : List ℕ) → length top ≤ 5 → length (stepAnswer report depth top) ≤ 64
-step-room report depth top h =
-    let a = decimalOf report in
-    let b = a ++ (32 ∷ []) in
-    let c = b ++ decimalOf depth in
-    let d = c ++ topOf top in
-    omega (
-      arith,
-      length-append a (32 ∷ []),
-      length-append b (decimalOf depth),
-      length-append c (topOf top),
-      length-append d (10 ∷ []),
-      digits-length 19 report,
-      digits-length 19 depth,
-      top-length top h,
-    )
 
 answer-room : (number : ℕ) (said : Line) (report depth : ℕ) (top : List ℕ) → length top ≤ 5 → length (answerOf number said report depth top) ≤ 64
 unfolding answerOf
@@ -56,38 +33,15 @@ answer-room number (Unreadable f) report depth top h =
     let a = ascii "? line " ++ decimalOf number in
     omega (arith, length-append (ascii "? line ") (decimalOf number), length-append a (10 ∷ []), digits-length 19 number)
 
-shown-length : (bs : List ℕ) → length (shownOf bs) ≡ length bs
-unfolding shownOf
-shown-length [] = omega arith
-shown-length (b ∷ bs) = let rest = shown-length bs in omega arith
-
-fault-length : (f : Fault) → length (faultOf f) ≤ 100
-unfolding faultOf
-fault-length LongLine = omega arith
-fault-length BareNumber = omega arith
-fault-length BadPush = omega arith
-fault-length BadLiteral = omega arith
-fault-length NoStep = omega arith
-
 complaint-length : (first : List ℕ) (number : ℕ) (text : List ℕ) (f : Fault) (last : List ℕ) → length first ≤ 16 → length last ≤ 48
     → length (complaint first number text f last) ≤ 256
 complaint-length first number text f last h g =
-    let a = first ++ decimalOf number in
-    let b = a ++ ascii ": " in
-    let c = b ++ shownOf (take 60 text) in
-    let d = c ++ ascii ": " in
-    let e = d ++ faultOf f in
+    let place = placeOf first number text in
     omega (
       arith,
-      length-append first (decimalOf number),
-      length-append a (ascii ": "),
-      length-append b (shownOf (take 60 text)),
-      length-append c (ascii ": "),
-      length-append d (faultOf f),
-      length-append e last,
-      digits-length 19 number,
-      shown-length (take 60 text),
-      length-take 60 text,
+      length-append place (faultOf f),
+      length-append (place ++ faultOf f) last,
+      place-length first number text h,
       fault-length f,
     )
 

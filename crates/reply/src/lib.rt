@@ -6,3 +6,4 @@ mod steps;
 
 pub use answering::Answered;
 pub use answering::answer_line;
+pub use steps::step;

@@ -1,8 +1,8 @@
 -- `put_step` meets its contract: its parts, one after the other.
 use borrow.Author.Needs.{needs}
 use Rattle.text.specs.Put.{puts-then, put-last}
-use Rattle.reply.proofs.answers.put_step.Statement.{statement}
-use Rattle.reply.proofs.answers.put_step.Tie as tie
+use Rattle.wording.proofs.steps.put_step.Statement.{statement}
+use Rattle.wording.proofs.steps.put_step.Tie as tie
 
 pub put-step-spec : {M : Type 1} → statement M
 put-step-spec =

@@ -1,9 +1,9 @@
 -- `put_top` meets its contract: the two cases are the definition's.
 use borrow.Author.Needs.{needs}
 use borrow.Author.Tests.{eq-eqb, ne-eqb}
-use Rattle.reply.specs.Answer.{topOf}
-use Rattle.reply.proofs.answers.put_top.Statement.{statement}
-use Rattle.reply.proofs.answers.put_top.Tie as tie
+use Rattle.wording.specs.Wording.{topOf}
+use Rattle.wording.proofs.steps.put_top.Statement.{statement}
+use Rattle.wording.proofs.steps.put_top.Tie as tie
 
 pub put-top-spec : {M : Type 1} → statement M
 unfolding topOf

@@ -4,9 +4,9 @@ use Prim.Native.Nat.{_-_, _≤_}
 use native.Mathlib.Omega.{arith}
 use lib.ListN.{length, drop}
 use Rattle.text.specs.Put.{putsOf}
-use Rattle.reply.specs.Answer.{shownOf, shown-done, shown-next}
-use Rattle.reply.proofs.complaints.put_shown.Statement.{statement}
-use Rattle.reply.proofs.complaints.put_shown.Tie as tie
+use Rattle.wording.specs.Wording.{shownOf, shown-done, shown-next}
+use Rattle.wording.proofs.places.put_shown.Statement.{statement}
+use Rattle.wording.proofs.places.put_shown.Tie as tie
 
 abbrev Inv-loop : tie.InvT-loop
 Inv-loop out₀ at bytes n next₀ i₀ out next i =

@@ -1,8 +1,8 @@
 -- `shown_byte` meets its contract: the tests are the definition's.
 use native.Mathlib.Omega.{arith}
 use borrow.Author.Tests.{lt-ltb, le-ltb, lt-leb, le-leb}
-use Rattle.reply.proofs.complaints.shown_byte.Statement.{statement}
-use Rattle.reply.proofs.complaints.shown_byte.Tie as tie
+use Rattle.wording.proofs.places.shown_byte.Statement.{statement}
+use Rattle.wording.proofs.places.shown_byte.Tie as tie
 
 pub shown-byte-spec : {M : Type 1} → statement M
 shown-byte-spec =

@@ -1,9 +1,9 @@
 -- `put_fault` meets its contract: its arms are the definition's.
 use borrow.Author.Needs.{needs}
 use mathlib.Core.Path.{refl}
-use Rattle.reply.specs.Answer.{faultOf}
-use Rattle.reply.proofs.complaints.put_fault.Statement.{statement}
-use Rattle.reply.proofs.complaints.put_fault.Tie as tie
+use Rattle.wording.specs.Wording.{faultOf}
+use Rattle.wording.proofs.places.put_fault.Statement.{statement}
+use Rattle.wording.proofs.places.put_fault.Tie as tie
 
 pub put-fault-spec : {M : Type 1} → statement M
 unfolding faultOf
