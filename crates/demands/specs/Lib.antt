@@ -14,3 +14,5 @@ pub mod Report1
 pub mod Report6
 pub mod Products
 pub mod Sums
+pub mod ReplayTurns
+pub mod Replays
