@@ -16,3 +16,5 @@ pub mod Products
 pub mod Sums
 pub mod ReplayTurns
 pub mod Replays
+pub mod Unfit
+pub mod ReplayRefusals
