@@ -18,3 +18,5 @@ pub mod ReplayTurns
 pub mod Replays
 pub mod Unfit
 pub mod ReplayRefusals
+pub mod RecordedStep
+pub mod Recorded

@@ -35,7 +35,7 @@ module _ (s : List ℕ) (d l : ℕ) (ok : reportOf s d l ≡ 0) where
   kept (two f) e = let w = stands s d l ok (two f) e in (after-two s d l ok f e .2 .long, omega arith)
   kept unknown e = absurd (true≢false (sym (ap notInTable e) ∙ accepted s d l .0 ok .0 .known))
 
-  stays-within : overLimits (operateOf s d l .1) (operateOf s d l .0 .depth) ≡ false
+  pub stays-within : overLimits (operateOf s d l .1) (operateOf s d l .0 .depth) ≡ false
   stays-within =
       let w = within-of s d (accepted s d l .0 ok .0 .limits) in
       let k = kept (operationOf l) refl in
