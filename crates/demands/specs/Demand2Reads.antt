@@ -35,7 +35,7 @@ pub record RunsAlike (x x′ : RunOutcome × List ℕ) : Type 0 where
   pub leave : Agree (x .0 .depth) (x .1) (x′ .1)
 
 -- two choices by one test are related if each of their ways is
-choice : {A : Type 0} (R : A → A → Type 0) (b : Bool) {x x′ y y′ : A} → (b ≡ true → R x x′) → (b ≡ false → R y y′) → R (cond b x y) (cond b x′ y′)
+pub choice : {A : Type 0} (R : A → A → Type 0) (b : Bool) {x x′ y y′ : A} → (b ≡ true → R x x′) → (b ≡ false → R y y′) → R (cond b x y) (cond b x′ y′)
 choice R true h k = h refl
 choice R false h k = k refl
 

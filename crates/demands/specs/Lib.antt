@@ -18,5 +18,7 @@ pub mod ReplayTurns
 pub mod Replays
 pub mod Unfit
 pub mod ReplayRefusals
+pub mod ReplayReads
 pub mod RecordedStep
 pub mod Recorded
+pub mod ReplaySums

@@ -17,8 +17,10 @@ use Rattle.replaying.specs.Replay.{stepOf, replayOf}
 use Rattle.replaying.specs.Made.{Step, doneBy, recordOf, recordingOf}
 use Rattle.demands.specs.ReplayTurns.{Agrees}
 use Rattle.demands.specs.Replays.{Follows, none, more, all-agree}
+use Rattle.demands.specs.ReplayReads.{replays-alike}
 use Rattle.demands.specs.RecordedStep.{Recordable, done-within, record-length, record-rest, same-step, agree}
 
+-- every step can be recorded
 pub data All : List Step → Type 0 where
   empty : All []
   also : {x : Step} {xs : List Step} → Recordable x → All xs → All (x ∷ xs)
@@ -58,9 +60,11 @@ recording-rest (also {x} {xs} h g) s d =
     let o = doneBy s d x in
     let rest = recordingOf xs (o .1) (o .0 .depth) in
     let l = record-length x o h in
-    rw (take-at (recordOf x o) rest 16 l, drop-at (recordOf x o) rest 16 l, record-rest x o h) (simp (same-refl (zeros 7)) (recording-rest g (o .1) (o .0 .depth)))
+    rw (take-at (recordOf x o) rest 16 l, drop-at (recordOf x o) rest 16 l, record-rest x o h)
+    (simp (same-refl (zeros 7)) (recording-rest g (o .1) (o .0 .depth)))
 
--- What `record` writes, `replay` agrees with: in every record, and with the stack and the depth that the steps left.
+-- What this machine records, its replay agrees with, and it leaves the stack and the depth that the steps left. Steps are at most 4,000, since a recording is
+-- at most 64,000 bytes.
 module _ (xs : List Step) (s : List ℕ) (h : All xs) (few : length xs ≤ 4000) (short : length s ≤ 16000) where
   abbrev r : List ℕ
   r = recordingOf xs s 0
@@ -81,3 +85,7 @@ module _ (xs : List Step) (s : List ℕ) (h : All xs) (few : length xs ≤ 4000)
 
   pub recorded-agrees : replayOf s r .0 .verdict ≡ Agree (length xs)
   recorded-agrees = ap (λ (x : Replayed × List ℕ). x .0 .verdict) replays
+
+  -- Nothing that the lent stack holds is read: the recording agrees on any stack of that length.
+  pub agrees-elsewhere : (s′ : List ℕ) → length s′ ≡ length s → replayOf s′ r .0 .verdict ≡ Agree (length xs)
+  agrees-elsewhere s′ l = ap (λ (x : Replayed). x .verdict) (replays-alike s′ s l r .answers) ∙ recorded-agrees

@@ -1,8 +1,8 @@
 -- A5, the refusals: "After report 1, and before any step: over 64,000 bytes, a part record, or nonzero bytes 9 to 15 is refused with number 8."
 use Prim.Native.Nat.{ℕ}
-use mathlib.Core.Path.{_≡_, refl, sym, _∙_, ap}
+use mathlib.Core.Path.{_≡_, refl, ap}
 use mathlib.Core.Logic.{_↔_, _⊎_, inl, inr, ⊎-elim}
-use mathlib.Core.Bool.{Bool, true, false, true≢false}
+use mathlib.Core.Bool.{Bool, true, false}
 use mathlib.Core.List.{List}
 use native.Mathlib.Omega.{arith}
 use Rattle.slots.specs.Reports.{overLimits}
@@ -21,7 +21,7 @@ module _ (s r : List ℕ) where
   verdict-of : {y : Replayed} → x ≡ (y, s) → x .0 .verdict ≡ y .verdict
   verdict-of e = ap (λ (z : Replayed × List ℕ). z .0 .verdict) e
 
-  -- the reason of each number, and that a refusal answers depth 0 and leaves every byte
+  -- why, and what is left
   refusal : (k : ℕ) → x .0 .verdict ≡ Refused k → (b c : Bool) → overLimits s 0 ≡ b → notARecording r ≡ c
       → (((k ≡ 1) × (overLimits s 0 ≡ true)) ⊎ ((k ≡ 8) × (overLimits s 0 ≡ false) × Unfit r)) × (x ≡ (refused k, s))
   refusal k v true c e g =
@@ -34,7 +34,7 @@ module _ (s r : List ℕ) where
       (inr (p, e, not-a-recording r .0 g), rw p q)
   refusal k v false false e g = absurd (never-refused s r e g k v)
 
-  -- "After report 1"
+  -- "After report 1": that is looked at first, whatever the recording.
   pub refused-1 : (x .0 .verdict ≡ Refused 1) ↔ (overLimits s 0 ≡ true)
   refused-1 = (
     (λ v. ⊎-elim (λ h. h .1) (λ h. absurd (omega (arith, h .0))) (refusal 1 v _ _ refl refl .0)),
@@ -48,6 +48,6 @@ module _ (s r : List ℕ) where
     (λ h. verdict-of (replay-refused s r (h .0) (not-a-recording r .1 (h .1)) refl)),
   )
 
-  -- "before any step": no other number refuses, and a refusal changes no byte and has depth 0
+  -- "before any step": a refusal changes no byte, its depth is 0, and its number is one of the two.
   pub refused-unchanged : (k : ℕ) → x .0 .verdict ≡ Refused k → ((k ≡ 1) ⊎ (k ≡ 8)) × (x ≡ (refused k, s))
   refused-unchanged k v = let y = refusal k v _ _ refl refl in (⊎-elim (λ h. inl (h .0)) (λ h. inr (h .0)) (y .0), y .1)

@@ -1,6 +1,6 @@
 -- A5, one record: "byte 0 the literal (0 for push), 1 the report, 2 and 3 the depth after, low first, 4 to 8 the top slot after (for a push, the pushed
 -- bytes, not compared; zeros at depth 0)". A record agrees with what its step gives, or one of its fields is the first to differ; said in equations, where
--- the replay asks tests. "An agreeing refusal changes nothing, and replay goes on."
+-- the replay asks tests.
 use Prim.Native.Nat.{ℕ, suc, _+_}
 use mathlib.Core.Path.{_≡_, refl, sym, _∙_, ap}
 use mathlib.Core.Bool.{Bool, true, false, false≢true, not, _&&_}
@@ -62,7 +62,7 @@ module _ (x s : List ℕ) (d : ℕ) where
       by-top p q true c e g = agreeing (record { report = p; depth = q; top = λ l. absurd (l (eqb-true _ _ e)) })
       by-top p q false true e g = agreeing (record { report = p; depth = q; top = λ l. same-true _ _ g })
       by-top p q false false e g =
-          differing Top (p, q, eqb-false _ _ e, (λ z. absurd (false≢true (sym g ∙ (rw z (same-refl (topIn x)))))))
+          differing Top (p, q, eqb-false _ _ e, (λ z. false≢true (sym g ∙ rw z (same-refl (topIn x)))))
 
       by-depth : o .0 .report ≡ reportIn x → (b : Bool) → eqb (o .0 .depth) (depthIn x) ≡ b → Found
       by-depth p true e = by-top p (eqb-true _ _ e) _ _ refl refl
@@ -84,7 +84,7 @@ module _ (n : ℕ) (r : List ℕ) (i : ℕ) (s : List ℕ) (d : ℕ) where
   stops Depth h = simp (eq-eqb _ _ (h .0), ne-eqb _ _ (h .1))
   stops Top h = simp (eq-eqb _ _ (h .0), eq-eqb _ _ (h .1), top-differs _ _ _ h)
 
--- a refusal that the record has too
+-- "An agreeing refusal changes nothing,"
 module _ (x s : List ℕ) (d : ℕ) (a : Agrees x s d) (h : reportIn x ≡ 0 → ⊥) where
   pub agreeing-refusal : (stepOf s d x .1 ≡ s) × (stepOf s d x .0 .depth ≡ d)
   agreeing-refusal = go (eqb (literalIn x) 0) refl
@@ -99,6 +99,7 @@ module _ (x s : List ℕ) (d : ℕ) (a : Agrees x s d) (h : reportIn x ≡ 0 →
           (refused-operation s d (literalIn x)
           (λ z. h (sym (a .report) ∙ ap (λ (y : Outcome × List ℕ). y .0 .report) q ∙ operation-report s d (literalIn x) ∙ z)))
 
+-- "and replay goes on."
 pub goes-on-refused : (n : ℕ) (r : List ℕ) (i : ℕ) (s : List ℕ) (d : ℕ) → Agrees (first r) s d → (reportIn (first r) ≡ 0 → ⊥)
     → goOn (suc n) r i s d ≡ goOn n (later r) (i + 1) s d
 goes-on-refused n r i s d a h =

@@ -3,7 +3,7 @@
 use Prim.Native.Nat.{ℕ, zero, suc, _+_, _-_, _*_, _<_}
 use mathlib.Core.Path.{_≡_, refl, sym, _∙_, ap}
 use mathlib.Core.Logic.{_↔_, _⊎_, inl, inr}
-use mathlib.Core.Bool.{true, false}
+use mathlib.Core.Bool.{false}
 use mathlib.Core.List.{List}
 use native.Mathlib.Nat.{zero-add, add-zero}
 use native.Mathlib.Omega.{arith}
@@ -12,7 +12,6 @@ use lib.Seq.{drop-drop}
 use Rattle.slots.specs.Reports.{overLimits}
 use Rattle.recording.specs.Recording.{first, later, records, notARecording}
 use Rattle.replaying.specs.declared.answer.Replayed.{Replayed}
-use Rattle.replaying.specs.declared.answer.Verdict.{Verdict}
 use Rattle.replaying.specs.declared.answer.Verdict.the-variants.{Agree, Differ, Refused}
 use Rattle.replaying.specs.declared.answer.Field.{Field}
 use Rattle.replaying.specs.Replay.{stepOf, differs, goOn, replayOf}
@@ -83,11 +82,11 @@ module _ (s r : List ℕ) (w : overLimits s 0 ≡ false) (good : notARecording r
   unfolding replayOf
   starts = simp (w, good)
 
-  -- Records that agree are answered so, and what they led to is left.
+  -- "The bench is as the records done, ..": where all of them agree, the stack and the depth are what they led to, and the answer is so.
   pub all-agree : {t : List ℕ} {e : ℕ} → Follows (records r) r s 0 t e → replayOf s r ≡ (record { verdict = Agree (records r); report = 0; depth = e }, t)
   all-agree f = starts ∙ led-all f
 
-  -- The first record that differs is answered with its field; the stack, the depth and the report are those of its step.
+  -- ".. that one included, left it": where one is the first to differ, the stack, the depth and the report are those of its step.
   pub first-differs : {n : ℕ} {f : Field} → (h : FirstToDiffer n f r s) → replayOf s r ≡ differs n f (stepOf (h .stack) (h .depth) (recordAt r n))
   first-differs {n} {f} h = starts ∙ led-part n f (h .inside) (h .before) (h .there)
 
@@ -100,6 +99,7 @@ module _ (s r : List ℕ) (w : overLimits s 0 ≡ false) (good : notARecording r
   differing-verdict : {n : ℕ} {f : Field} → FirstToDiffer n f r s → x .0 .verdict ≡ Differ n f
   differing-verdict h = ap (λ (y : Replayed × List ℕ). y .0 .verdict) (first-differs h)
 
+  -- one of these holds of the records
   either : {P : Type 0} → ((t : List ℕ) (e : ℕ) → Follows (records r) r s 0 t e → P) → ((n : ℕ) (f : Field) → FirstToDiffer n f r s → P) → P
   either {P} a b = go (ended (records r) r s 0)
     where
@@ -111,9 +111,9 @@ module _ (s r : List ℕ) (w : overLimits s 0 ≡ false) (good : notARecording r
   pub agrees-exactly : (n : ℕ) → (x .0 .verdict ≡ Agree n) ↔ ((n ≡ records r) × Follows n r s 0 (x .1) (x .0 .depth))
   agrees-exactly n = (
     (λ v.
-    either
-    (λ t e g. let p : n ≡ records r = cc (agreed-verdict g) in (p, rw (all-agree g, p) g))
-    (λ m f h. absurd (let z : _≡_ {A = ℕ} 0 1 = cc (differing-verdict h) in omega arith))),
+        either
+        (λ t e g. let p : n ≡ records r = cc (agreed-verdict g) in (p, rw (all-agree g, p) g))
+        (λ m f h. absurd (let z : _≡_ {A = ℕ} 0 1 = cc (differing-verdict h) in omega arith))),
     (λ h. agreed-verdict (rw (h .0) at (h .1)) ∙ ap Agree (sym (h .0))),
   )
 
@@ -121,13 +121,13 @@ module _ (s r : List ℕ) (w : overLimits s 0 ≡ false) (good : notARecording r
   pub differs-exactly : (n : ℕ) (f : Field) → (x .0 .verdict ≡ Differ n f) ↔ FirstToDiffer n f r s
   differs-exactly n f = (
     (λ v.
-    either
-    (λ t e g. absurd (let z : _≡_ {A = ℕ} 0 1 = cc (agreed-verdict g) in omega arith))
-    (λ m k h. let p : m ≡ n = cc (differing-verdict h) in let q : k ≡ f = cc (differing-verdict h) in rw (p, q) at h)),
+        either
+        (λ t e g. absurd (let z : _≡_ {A = ℕ} 0 1 = cc (agreed-verdict g) in omega arith))
+        (λ m k h. let p : m ≡ n = cc (differing-verdict h) in let q : k ≡ f = cc (differing-verdict h) in rw (p, q) at h)),
     differing-verdict,
   )
 
-  -- one of the two, and never a refusal
+  -- The answer is one of the two, and never a refusal.
   pub agrees-or-differs : (x .0 .verdict ≡ Agree (records r)) ⊎ ((n : ℕ) × (f : Field) × (x .0 .verdict ≡ Differ n f))
   agrees-or-differs = either (λ t e g. inl (agreed-verdict g)) (λ n f h. inr (n, f, differing-verdict h))
 

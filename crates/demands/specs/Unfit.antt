@@ -12,11 +12,19 @@ use borrow.Author.Tests.{ltb-true, ltb-false, eqb-true, eqb-false, lt-ltb, ne-eq
 use Rattle.recording.specs.Recording.{restIn, first, later, records, same, zeros, stray, notARecording}
 use Rattle.recording.specs.RecordingLaws.{same-true, by-rest}
 
--- in each of the three ways: the last of byte k of record i
+-- byte 9 to 15 of one of the first n records is not zero
+pub record StrayByte (n : ℕ) (r : List ℕ) : Type 0 where
+  pub number : ℕ
+  pub byte : ℕ
+  pub inside : number < n
+  pub low : 9 ≤ byte
+  pub high : byte ≤ 15
+  pub there : getD r (16 * number + byte) 0 ≡ 0 → ⊥
+
 pub data Unfit (r : List ℕ) : Type 0 where
   over : 64000 < length r → Unfit r
   part : (length r % 16 ≡ 0 → ⊥) → Unfit r
-  nonzero : (i k : ℕ) → i < records r → 9 ≤ k → k ≤ 15 → (getD r (16 * i + k) 0 ≡ 0 → ⊥) → Unfit r
+  nonzero : StrayByte (records r) r → Unfit r
 
 zero-byte : (n j : ℕ) → getD (zeros n) j 0 ≡ 0
 zero-byte zero j = refl
@@ -29,7 +37,8 @@ unfolding same
 some [] h = absurd (true≢false h)
 some (x ∷ xs) h = go (eqb x 0) refl h (some xs)
   where
-    go : (b : Bool) → eqb x 0 ≡ b → b && same xs (zeros (length xs)) ≡ false → (same xs (zeros (length xs)) ≡ false → (j : ℕ) × (j < length xs) × (getD xs j 0 ≡ 0 → ⊥))
+    go : (b : Bool) → eqb x 0 ≡ b → b && same xs (zeros (length xs)) ≡ false
+        → (same xs (zeros (length xs)) ≡ false → (j : ℕ) × (j < length xs) × (getD xs j 0 ≡ 0 → ⊥))
         → (j : ℕ) × (j < suc (length xs)) × (getD (x ∷ xs) j 0 ≡ 0 → ⊥)
     go true e g f = let y = f g in (suc (y .0), omega (arith, y .1), y .2)
     go false e g f = (0, omega arith, eqb-false _ _ e)
@@ -38,16 +47,8 @@ some (x ∷ xs) h = go (eqb x 0) refl h (some xs)
 rest-byte : (r : List ℕ) (j : ℕ) → j < 7 → getD (restIn (first r)) j 0 ≡ getD r (9 + j) 0
 rest-byte r j h = getD-take 7 (drop 9 (first r)) j 0 h ∙ getD-drop 9 (first r) j 0 ∙ getD-take 16 r (9 + j) 0 (omega arith)
 
--- of n whole records
-record StrayIn (n : ℕ) (r : List ℕ) : Type 0 where
-  number : ℕ
-  byte : ℕ
-  inside : number < n
-  low : 9 ≤ byte
-  high : byte ≤ 15
-  there : getD r (16 * number + byte) 0 ≡ 0 → ⊥
-
-found : (n : ℕ) (r : List ℕ) → 16 * n ≤ length r → stray n r ≡ true → StrayIn n r
+-- what the test of n whole records finds
+found : (n : ℕ) (r : List ℕ) → 16 * n ≤ length r → stray n r ≡ true → StrayByte n r
 unfolding stray
 found zero r l h = absurd (false≢true h)
 found (suc n) r l h = go (same (restIn (first r)) (zeros 7)) refl h (found n (later r) (omega (arith, length-drop 16 r)))
@@ -55,7 +56,8 @@ found (suc n) r l h = go (same (restIn (first r)) (zeros 7)) refl h (found n (la
     long : length (restIn (first r)) ≡ 7
     long = simp (length-take, length-drop) (omega arith)
 
-    go : (b : Bool) → same (restIn (first r)) (zeros 7) ≡ b → not b || stray n (later r) ≡ true → (stray n (later r) ≡ true → StrayIn n (later r)) → StrayIn (suc n) r
+    go : (b : Bool) → same (restIn (first r)) (zeros 7) ≡ b → not b || stray n (later r) ≡ true
+        → (stray n (later r) ≡ true → StrayByte n (later r)) → StrayByte (suc n) r
     go true e g f =
         let y = f g in
         let at : 16 + (16 * y .number + y .byte) ≡ 16 * suc (y .number) + y .byte = omega arith in
@@ -100,15 +102,13 @@ finds (suc n) r (suc i) k g a b h =
     rw (finds n (later r) i k (omega arith) a b (λ z. h (sym (getD-drop 16 r (16 * i + k) 0 ∙ ap (λ (j : ℕ). getD r j 0) at) ∙ z)))
     (or-true (not (same (restIn (first r)) (zeros 7))))
 
--- It is refused exactly then.
+-- What the test of a recording refuses, exactly.
 pub not-a-recording : (r : List ℕ) → (notARecording r ≡ true) ↔ Unfit r
 unfolding notARecording
 not-a-recording r = (by-length (ltb 64000 (length r)) refl, holds)
   where
     by-records : length r ≤ 64000 → (b : Bool) → eqb (length r % 16) 0 ≡ b → notARecording r ≡ true → Unfit r
-    by-records l true e h =
-        let y = found (records r) r (omega arith) (by-rest r l (eqb-true _ _ e) ∙ h) in
-        nonzero (y .number) (y .byte) (y .inside) (y .low) (y .high) (y .there)
+    by-records l true e h = nonzero (found (records r) r (omega arith) (by-rest r l (eqb-true _ _ e) ∙ h))
     by-records l false e h = part (eqb-false _ _ e)
 
     by-length : (b : Bool) → ltb 64000 (length r) ≡ b → notARecording r ≡ true → Unfit r
@@ -118,4 +118,4 @@ not-a-recording r = (by-length (ltb 64000 (length r)) refl, holds)
     holds : Unfit r → notARecording r ≡ true
     holds (over h) = simp (lt-ltb _ _ h)
     holds (part h) = simp (ne-eqb _ _ h, or-true)
-    holds (nonzero i k g a b h) = simp (finds (records r) r i k g a b h, or-true)
+    holds (nonzero y) = simp (finds (records r) r (y .number) (y .byte) (y .inside) (y .low) (y .high) (y .there), or-true)
