@@ -13,7 +13,8 @@
  * last whole slot are never read or written.
  *
  * Every call takes any bytes, any depth and any literal, keeps nothing between calls, and allocates nothing. A report other than 0
- * means that no byte of the stack and no depth has changed (a run keeps what the literals before the refused one did).
+ * means that no byte of the stack and no depth has changed (a run keeps what the literals before the refused one did; a replay that is
+ * refused writes 0 for its depth).
  *
  *     report   when (TRENAILER_REPORT_.. below)
  *     0        done
@@ -23,8 +24,9 @@
  *     4        no room for a push or a duplicate
  *     5        not one of the eleven literals
  *     6        number too big: a divisor that counts as zero, or an exponent byte above 255
+ *     8        of a replay alone: what was given is not a recording
  *
- * They are asked in the order 1, 5, 2, 4, 3, 6, and the first that holds is given.
+ * They are asked in the order 1, 5, 2, 4, 3, 6, and the first that holds is given; a replay asks for 1, then 8, and no more.
  *
  * Pointers. Each pointer is lent for the call. It points to as many bytes as the length beside it says, or to one object, and is not
  * null, not even where the length is 0: pass the address of any object then. No two of a call's objects overlap. Nothing else reads or
@@ -45,12 +47,14 @@ extern "C" {
 #define TRENAILER_VERSION_MINOR 1
 #define TRENAILER_VERSION_PATCH 0
 
-#define TRENAILER_NUMBER_SIZE 5      /* bytes of a number */
-#define TRENAILER_STACK_MAX 16000    /* bytes of a stack */
-#define TRENAILER_DEPTH_MAX 3200     /* numbers on a stack of that many bytes */
-#define TRENAILER_LITERALS_MAX 60000 /* literals of a run */
+#define TRENAILER_NUMBER_SIZE 5       /* bytes of a number */
+#define TRENAILER_STACK_MAX 16000     /* bytes of a stack */
+#define TRENAILER_DEPTH_MAX 3200      /* numbers on a stack of that many bytes */
+#define TRENAILER_LITERALS_MAX 60000  /* literals of a run */
+#define TRENAILER_RECORD_SIZE 16      /* bytes of a record */
+#define TRENAILER_RECORDING_MAX 64000 /* bytes of a recording: 4,000 records */
 
-/* What trenailer_operate, trenailer_push and trenailer_run return: the reports of the table above. */
+/* What trenailer_operate, trenailer_push, trenailer_run and trenailer_replay return: the reports of the table above. */
 enum {
     TRENAILER_REPORT_DONE = 0,
     TRENAILER_REPORT_OVER_LIMITS = 1,
@@ -58,7 +62,8 @@ enum {
     TRENAILER_REPORT_MALFORMED = 3,
     TRENAILER_REPORT_NO_ROOM = 4,
     TRENAILER_REPORT_UNKNOWN_LITERAL = 5,
-    TRENAILER_REPORT_TOO_BIG = 6
+    TRENAILER_REPORT_TOO_BIG = 6,
+    TRENAILER_REPORT_NOT_A_RECORDING = 8
 };
 
 /*
@@ -111,6 +116,36 @@ enum {
  * What a case does not name stays as it was.
  */
 uint8_t trenailer_cell(uint8_t report, const uint8_t *stack, size_t stack_len, size_t depth, uint8_t *refused, double *value);
+
+/* What trenailer_replay compares of each record, in this order; in *field, the first that differs. */
+enum {
+    TRENAILER_FIELD_NONE = 0, /* all records agree */
+    TRENAILER_FIELD_REPORT = 1,
+    TRENAILER_FIELD_DEPTH = 2,
+    TRENAILER_FIELD_TOP = 3
+};
+
+/*
+ * A recording is records of 16 bytes, one after another with nothing before them, each a step and what a machine said to it.
+ *
+ *     byte      of a record
+ *     0         the literal, or 0 for a push
+ *     1         the report
+ *     2, 3      the depth after it, low byte first
+ *     4 to 8    the top slot after it, five zero bytes at depth 0; for a push, done or refused, the pushed bytes
+ *     9 to 15   zero
+ *
+ * Replays a recording: does its steps in turn, from depth 0 on, on the stack, and compares each record with what came of its step here:
+ * the report, the depth, and for a literal the top. It stops after the first that differs. A refusal that agrees changes nothing, and
+ * the steps go on.
+ *
+ * Returns 0, with *field TRENAILER_FIELD_NONE and *count the number of records where all agree; else *field is what differs first, and
+ * *count the number, from 0, of that record. *depth and the stack are as the steps done, that one's included, left them. Returns a
+ * refusal before any step: 1 for a stack over 16,000 bytes; then 8 for more than 64,000 bytes of a recording, a part of a record at its
+ * end, or a byte 9 to 15 of any record that is not zero. It then writes 0 to all three and changes no byte of the stack.
+ */
+uint8_t trenailer_replay(uint8_t *stack, size_t stack_len, const uint8_t *recording, size_t recording_len, size_t *count, uint8_t *field,
+                         size_t *depth);
 
 #ifdef __cplusplus
 }

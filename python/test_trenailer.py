@@ -26,8 +26,8 @@ import trenailer  # noqa: E402
 
 # The format of crates/vectors, as the head of its src/main.rt has it. A line over LINE bytes, with its line feed, is no case.
 LINE = 65_536
-STACK, BYTES = 17_000, 61_000
-CASE = re.compile(rb"([oprc])([0-9]+) ([0-9]+):((?:[0-9A-Fa-f]{2})*)(\*?) ([0-9]+):((?:[0-9A-Fa-f]{2})*)(\*?)")
+STACK, BYTES, RECORDING = 17_000, 61_000, 65_000
+CASE = re.compile(rb"([oprcy])([0-9]+) ([0-9]+):((?:[0-9A-Fa-f]{2})*)(\*?) ([0-9]+):((?:[0-9A-Fa-f]{2})*)(\*?)")
 
 
 def given(length, digits, star, most):
@@ -59,20 +59,23 @@ def answer(line):
     if not case:
         return "?"
     kind, depth = case[1], int(case[2])
-    stack, some = given(*case.group(3, 4, 5), STACK), given(*case.group(6, 7, 8), BYTES)
+    stack, some = given(*case.group(3, 4, 5), STACK), given(*case.group(6, 7, 8), RECORDING if kind == b"y" else BYTES)
     if depth >= 1 << 64 or stack is None or some is None or (kind in b"oc" and len(some) != 1):
         return "?"
-    stack, position = bytearray(stack), 0
+    stack, position, field = bytearray(stack), 0, ""
     if kind == b"o":
         report, depth = trenailer.operate(stack, depth, some[0])
     elif kind == b"p":
         report, depth = trenailer.push(stack, depth, some)
     elif kind == b"r":
         report, position, depth = trenailer.run(stack, depth, some)
+    elif kind == b"y":
+        report, position, compared, depth = trenailer.replay(stack, some)
+        field = f"{int(compared)} "
     else:
         report = some[0]
     view, cell = trenailer.view(stack, depth), trenailer.cell(report, stack, depth)
-    return f"{report} {position} {depth} {told(stack)} {told(view)} {cell_told(cell)}"
+    return f"{field}{report} {position} {depth} {told(stack)} {told(view)} {cell_told(cell)}"
 
 
 class Vectors(unittest.TestCase):
@@ -97,8 +100,11 @@ class Vectors(unittest.TestCase):
         self.assertEqual(given(b"5", b"8240", b"*", STACK), bytes.fromhex("8240824082"))
         self.assertEqual(answer(b"c1 5:8240 1:00"), "0 0 1 5:8240 5:8240 V4613937818241073152")
         self.assertEqual(answer(b"c1 5:8240 1:06"), "6 0 1 5:8240 5:8240 R6")
+        self.assertEqual(answer(b"y0 5: 16:000001008240"), "0 0 1 1 5:8240 5:8240 V4613937818241073152")
+        self.assertEqual(answer(b"y7 5: 16:000002008240"), "2 0 0 1 5:8240 5:8240 V4613937818241073152")
+        self.assertEqual(answer(b"y0 5: 65000:"), "0 8 0 0 5: 0: R8")
         for line in (b"x1 5: 1:05", b"o1 5: 2:0505", b"c1 5: 0:", b"o1 5:0 1:05", b"o1 1:0000 1:05", b"o1 5:* 1:05", b"o1 17001: 1:05",
-                     b"p0 5: 61001:", b"o18446744073709551616 5: 1:05", b"o1 5: 1:05 ", b"o" + b"0" * LINE + b" 5: 1:05"):
+                     b"p0 5: 61001:", b"y0 5: 65001:", b"o18446744073709551616 5: 1:05", b"o1 5: 1:05 ", b"o" + b"0" * LINE + b" 5: 1:05"):
             self.assertEqual(answer(line), "?", line[:40])
 
 
@@ -119,7 +125,9 @@ class Texts(unittest.TestCase):
         wanted = {literal.name: literal for literal in trenailer.Literal}
         wanted.update({"REPORT_" + report.name: report for report in trenailer.Report})
         wanted.update({name: getattr(trenailer, name) for name in ("REFUSED", "BLANK", "ODD", "VALUE")})
-        wanted.update({name: getattr(trenailer, name) for name in ("NUMBER_SIZE", "STACK_MAX", "DEPTH_MAX", "LITERALS_MAX")})
+        wanted.update({"FIELD_" + field.name: field for field in trenailer.Field})
+        sizes = ("NUMBER_SIZE", "STACK_MAX", "DEPTH_MAX", "LITERALS_MAX", "RECORD_SIZE", "RECORDING_MAX")
+        wanted.update({name: getattr(trenailer, name) for name in sizes})
         wanted.update(zip(("VERSION_MAJOR", "VERSION_MINOR", "VERSION_PATCH"), trenailer.__version__.split(".")))
         self.assertEqual(have.pop("VERSION"), trenailer.__version__)
         self.assertEqual({name: int(n) for name, n in have.items()}, {name: int(n) for name, n in wanted.items()})
@@ -132,6 +140,7 @@ class Calls(unittest.TestCase):
         self.assertEqual(trenailer.run(bytearray(), 0, b""), (trenailer.Report.DONE, 0, 0))
         self.assertEqual(trenailer.view(bytearray(), 0), b"")
         self.assertEqual(trenailer.cell(0, bytearray(), 0), trenailer.Cell(trenailer.BLANK))
+        self.assertEqual(trenailer.replay(bytearray(), b""), (trenailer.Report.DONE, 0, trenailer.Field.NONE, 0))
 
     def test_a_stack_pushed_onto_itself(self):
         stack = bytearray.fromhex("0000060000")
@@ -150,6 +159,8 @@ class Calls(unittest.TestCase):
             self.assertRaises(ValueError, trenailer.operate, stack, 0, byte)
             self.assertRaises(ValueError, trenailer.cell, byte, stack, 0)
         self.assertRaises(TypeError, trenailer.push, stack, 0, 5)
+        self.assertRaises(TypeError, trenailer.replay, stack, 16)
+        self.assertRaises(TypeError, trenailer.replay, bytes(10), b"")
         self.assertRaises(TypeError, trenailer.operate, bytes(10), 0, 2)
         self.assertEqual(stack, bytes(10))
 
@@ -169,6 +180,32 @@ class Calls(unittest.TestCase):
         self.assertEqual((stack.depth, stack.bytes.hex()), (2, "82400000008240000000"))
         self.assertEqual(stack.cell(), trenailer.Cell(trenailer.REFUSED, 4))
         self.assertEqual(stack.cell(trenailer.Report.DONE), trenailer.Cell(trenailer.VALUE, None, 3.0))
+
+    def test_a_replay(self):
+        agreed = (ROOT / "examples/count.rec").read_bytes()
+        moved = (ROOT / "examples/moved.rec").read_bytes()
+        self.assertEqual(len(agreed), 18 * trenailer.RECORD_SIZE)
+        stack = trenailer.Stack()
+        stack.push(trenailer.whole(7)), stack.push(trenailer.whole(8))
+        self.assertEqual(stack.replay(agreed), (trenailer.Report.DONE, 18, trenailer.Field.NONE, 1))
+        self.assertEqual((stack.depth, stack.view().hex(), stack.cell().value), (1, "0000950100", 405.0))
+        self.assertEqual(stack.replay(moved), (trenailer.Report.DONE, 15, trenailer.Field.TOP, 2))
+        self.assertEqual((stack.depth, stack.cell().value), (2, 117.0))
+        # A refusal changes nothing.
+        before = bytes(stack.bytes)
+        self.assertEqual(stack.replay(agreed[:-1]), (trenailer.Report.NOT_A_RECORDING, 0, trenailer.Field.NONE, 0))
+        self.assertEqual((stack.depth, stack.bytes, stack.cell()), (2, before, trenailer.Cell(trenailer.REFUSED, 8)))
+        self.assertEqual(stack.replay(agreed[:9] + b"\1" + agreed[10:]).report, trenailer.Report.NOT_A_RECORDING)
+        longest = bytes(trenailer.RECORDING_MAX)
+        self.assertEqual(stack.replay(longest + bytes(16)).report, trenailer.Report.NOT_A_RECORDING)
+        self.assertEqual(stack.replay(longest), (trenailer.Report.DONE, 0, trenailer.Field.DEPTH, 1))
+        long = trenailer.Stack(trenailer.STACK_MAX + 1)
+        self.assertEqual(long.replay(b"?"), (trenailer.Report.OVER_LIMITS, 0, trenailer.Field.NONE, 0))
+
+    def test_a_replay_of_its_own_stack(self):
+        stack = bytearray.fromhex("0000 0100 0000060000 00000000000000")
+        self.assertEqual(trenailer.replay(stack, stack), (trenailer.Report.DONE, 1, trenailer.Field.NONE, 1))
+        self.assertEqual(stack, bytes.fromhex("0000060000 0006 000000000000000000"))
 
     def test_a_cell_after_a_refusal(self):
         stack = trenailer.Stack()

@@ -11,8 +11,21 @@ many numbers there are; the last is the top. `Stack` keeps the two together:
     >>> stack.cell()
     Cell(kind=3, refused=None, value=3.0)
 
-`operate`, `push`, `run`, `view` and `cell` are the same on a bytearray and a depth of your own, as the C interface has them. Every call
-takes any bytes, any depth and any literal. What it can't do it refuses by a report (`Report`), and a refusal changes nothing.
+A recording is bytes, 16 for each step of a count: what was done, and what a machine said to it (include/trenailer.h has the layout).
+A replay does the steps again from depth 0 on, and finds the first record that differs:
+
+    >>> recording = bytes.fromhex(
+    ...     "0000 0100 0000060000 00000000000000"  # 6 is pushed: report 0, depth 1
+    ...     "1b00 0100 0000060000 00000000000000"  # and negated, and the top is said to be 6 still
+    ... )
+    >>> replayed = stack.replay(recording)
+    >>> replayed.count, replayed.field.name
+    (1, 'TOP')
+    >>> stack.cell().value
+    -6.0
+
+`operate`, `push`, `run`, `view`, `cell` and `replay` are the same on a bytearray and a depth of your own, as the C interface has them.
+Every call takes any bytes, any depth and any literal. What it can't do it refuses by a report (`Report`), and a refusal changes nothing.
 
 The calls are those of the shared library, libtrenailer.so. It is looked for by the environment variable TRENAILER_LIBRARY, which is
 its path; then where `trenailer install` and `trenailer library` put it; then among the system's libraries.
@@ -31,6 +44,8 @@ NUMBER_SIZE = 5
 STACK_MAX = 16_000
 DEPTH_MAX = 3_200
 LITERALS_MAX = 60_000
+RECORD_SIZE = 16
+RECORDING_MAX = 64_000
 
 
 class Literal(IntEnum):
@@ -59,6 +74,7 @@ class Report(IntEnum):
     NO_ROOM = 4
     UNKNOWN_LITERAL = 5
     TOO_BIG = 6
+    NOT_A_RECORDING = 8
 
 
 # The kinds of a cell.
@@ -71,6 +87,25 @@ class Cell(NamedTuple):
     kind: int
     refused: Optional[int] = None
     value: Optional[float] = None
+
+
+class Field(IntEnum):
+    """What a replay compares of each record, in this order. NONE: all agree."""
+
+    NONE = 0
+    REPORT = 1
+    DEPTH = 2
+    TOP = 3
+
+
+class Replayed(NamedTuple):
+    """What a replay answers. `report` is 0, or 1 or 8 where it is refused, and then all else is 0. `field` is the first that differs, and
+    `count` the number, from 0, of its record; where all agree it is how many there are. `depth` is the depth after it."""
+
+    report: int
+    count: int
+    field: Field
+    depth: int
 
 
 def _path() -> str:
@@ -96,7 +131,7 @@ def _path() -> str:
 
 def _load() -> ctypes.PyDLL:
     byte, size = ctypes.c_uint8, ctypes.c_size_t
-    bytes_, size_at = ctypes.c_void_p, ctypes.POINTER(size)
+    bytes_, size_at, byte_at = ctypes.c_void_p, ctypes.POINTER(size), ctypes.POINTER(byte)
     # A call is short, and nothing else may write its stack meanwhile: PyDLL lets no other thread of Python run.
     library = ctypes.PyDLL(_path())
     for name, answer, arguments in (
@@ -104,7 +139,8 @@ def _load() -> ctypes.PyDLL:
         ("push", byte, (bytes_, size, size_at, bytes_, size)),
         ("run", byte, (bytes_, size, size_at, bytes_, size, size_at)),
         ("view", size, (bytes_, size, size, size_at)),
-        ("cell", byte, (byte, bytes_, size, size, ctypes.POINTER(byte), ctypes.POINTER(ctypes.c_double))),
+        ("cell", byte, (byte, bytes_, size, size, byte_at, ctypes.POINTER(ctypes.c_double))),
+        ("replay", byte, (bytes_, size, bytes_, size, size_at, byte_at, size_at)),
     ):
         call = getattr(library, "trenailer_" + name)
         call.restype, call.argtypes = answer, arguments
@@ -175,6 +211,14 @@ def cell(report: int, stack: bytearray, depth: int) -> Cell:
     return Cell(kind, refused.value if kind == REFUSED else None, value.value if kind == VALUE else None)
 
 
+def replay(stack: bytearray, recording: bytes) -> Replayed:
+    """Does the steps of a recording on the stack, from depth 0 on, up to the first whose record differs from what came of it."""
+    count, field, after = ctypes.c_size_t(), ctypes.c_uint8(), ctypes.c_size_t()
+    recording = _bytes(recording)
+    report = _library.trenailer_replay(_lent(stack), len(stack), recording, len(recording), count, field, after)
+    return Replayed(report, count.value, Field(field.value), after.value)
+
+
 def whole(n: int) -> bytes:
     """The short number of a whole number from -65,535 to 65,535."""
     if not -65_535 <= n <= 65_535:
@@ -204,6 +248,14 @@ class Stack:
         """Does literals in turn up to the first that is refused, and answers the report and how many were done."""
         self.report, position, self.depth = run(self.bytes, self.depth, literals)
         return self.report, position
+
+    def replay(self, recording: bytes) -> Replayed:
+        """Does the steps of a recording from depth 0 on, up to the first whose record differs. Where it is refused the depth stays."""
+        replayed = replay(self.bytes, recording)
+        self.report = replayed.report
+        if replayed.report == Report.DONE:
+            self.depth = replayed.depth
+        return replayed
 
     def view(self) -> bytes:
         """The top's five bytes, or none."""

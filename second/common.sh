@@ -37,6 +37,19 @@ build() {
     (cd "$here" && cargo build --quiet --offline --release --bin "$1" ${2:+--features "$2"}) >&2
 }
 
+# program NAME: the program target/bin/NAME, built where it is missing or older than its sources, as
+# the launcher does.
+program() {
+    local file="$root/target/bin/$1" newer=
+    [ ! -x "$file" ] ||
+        newer=$(find "$root/crates.txt" "$root/crates" -newer "$file" ! -path '*/must-fail/*' -type f -print -quit)
+    if [ ! -x "$file" ] || [ -n "$newer" ]; then
+        need rt "it proves and builds $1"
+        (cd "$root" && rt check "$1") >&2
+        touch "$file"
+    fi
+}
+
 # archive: the C interface's archive, in TRENAILER_LIB; ours unless another is named there.
 archive() {
     if [ -z "${TRENAILER_LIB:-}" ]; then

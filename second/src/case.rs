@@ -9,6 +9,8 @@ pub enum Call {
     Run(Vec<u8>),
     /// Nothing is done: the view and the cell of the stack as it is, with this report.
     Cell(u8),
+    /// Of a recording. It starts at depth 0, whatever the case's depth is.
+    Replay(Vec<u8>),
 }
 
 #[derive(Clone, Debug, PartialEq, Eq)]
@@ -18,9 +20,11 @@ pub struct Case {
     pub stack: Vec<u8>,
 }
 
-/// Everything that can be seen after a call. Only a run has a position.
+/// Everything that can be seen after a call. A run has a position; a replay has its count there,
+/// and the number of a field.
 #[derive(Clone, Debug, PartialEq, Eq)]
 pub struct After {
+    pub field: Option<u8>,
     pub report: u8,
     pub position: Option<usize>,
     pub depth: usize,
@@ -32,6 +36,7 @@ pub struct After {
 impl Case {
     pub fn answer(&self) -> After {
         let mut stack = self.stack.clone();
+        let mut field = None;
         let (report, position, depth) = match &self.call {
             Call::Operate(literal) => {
                 let o = reference::operate(&mut stack, self.depth, *literal);
@@ -46,10 +51,16 @@ impl Case {
                 (o.report, Some(o.position), o.depth)
             }
             Call::Cell(report) => (*report, None, self.depth),
+            Call::Replay(recording) => {
+                let o = reference::replay(&mut stack, recording);
+                field = Some(o.field_number());
+                (o.report, Some(o.count), o.depth)
+            }
         };
         let view = reference::view(&stack, depth);
         let cell = reference::cell(report, &stack, depth);
         After {
+            field,
             report,
             position,
             depth,

@@ -1,11 +1,14 @@
-//! The second program: document 01's arithmetic and A1's multiplication, written from the
-//! papers and not from the Rattle code, to make test vectors and to compare with.
+//! The second program: document 01's arithmetic, A1's multiplication and A5's replay, written
+//! from the papers and not from the Rattle code, to make test vectors and to compare with.
 
 pub mod case;
 #[cfg(feature = "native")]
 pub mod compare;
 pub mod draw;
 pub mod plain;
+pub mod program;
+pub mod recording;
+pub mod recordings;
 pub mod reference;
 pub mod rng;
 #[cfg(feature = "z80")]
@@ -38,6 +41,43 @@ pub struct RunOutcome {
     pub report: u8,
     pub position: usize,
     pub depth: usize,
+}
+
+/// One step of a count, as a line of a sheet and a record of a recording name it.
+#[derive(Clone, Copy, Debug, PartialEq, Eq)]
+pub enum Step {
+    Push(Bytes),
+    Literal(u8),
+}
+
+/// What a replay compares of each record, in this order.
+#[derive(Clone, Copy, Debug, PartialEq, Eq)]
+pub enum Field {
+    Report,
+    Depth,
+    Top,
+}
+
+/// The answer of a replay. `report` is 0, or the number that refuses all of it. `count` records
+/// agreed; where a field of the next differs, that is the record's number.
+#[derive(Clone, Copy, Debug, PartialEq, Eq)]
+pub struct ReplayOutcome {
+    pub report: u8,
+    pub count: usize,
+    pub field: Option<Field>,
+    pub depth: usize,
+}
+
+impl ReplayOutcome {
+    /// The field as the C interface numbers it.
+    pub fn field_number(&self) -> u8 {
+        match self.field {
+            None => 0,
+            Some(Field::Report) => 1,
+            Some(Field::Depth) => 2,
+            Some(Field::Top) => 3,
+        }
+    }
 }
 
 /// A display cell. A double is held by its bits, so that cells compare bit for bit.

@@ -37,6 +37,15 @@ extern "C" {
         refused: *mut u8,
         value: *mut f64,
     ) -> u8;
+    pub fn trenailer_replay(
+        stack: *mut u8,
+        stack_len: usize,
+        recording: *const u8,
+        recording_len: usize,
+        count: *mut usize,
+        field: *mut u8,
+        depth: *mut usize,
+    ) -> u8;
 }
 
 /// The kinds that `cell` answers.
@@ -88,4 +97,26 @@ pub fn view(stack: &[u8], depth: usize, start: &mut usize) -> usize {
 pub fn cell(report: u8, stack: &[u8], depth: usize, refused: &mut u8, value: &mut f64) -> u8 {
     // SAFETY: as for operate.
     unsafe { trenailer_cell(report, stack.as_ptr(), stack.len(), depth, refused, value) }
+}
+
+/// 0, 1 or 8; the three targets are always written.
+pub fn replay(
+    stack: &mut [u8],
+    recording: &[u8],
+    count: &mut usize,
+    field: &mut u8,
+    depth: &mut usize,
+) -> u8 {
+    // SAFETY: as for operate.
+    unsafe {
+        trenailer_replay(
+            stack.as_mut_ptr(),
+            stack.len(),
+            recording.as_ptr(),
+            recording.len(),
+            count,
+            field,
+            depth,
+        )
+    }
 }

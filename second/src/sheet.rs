@@ -2,9 +2,13 @@
 
 use crate::draw::short;
 use crate::reference::literals::{ALL, NAMES};
-use crate::reference::{operate, push, slot};
+use crate::reference::replay::Record;
+use crate::reference::view;
+use crate::text::spaced;
+use crate::{Bytes, Step};
 
-const STACK_LEN: usize = 16_000;
+/// The bytes of the stack that a program has: zeros, and none taken.
+pub const STACK_LEN: usize = 16_000;
 
 /// The most bytes that may stand in a line before its comment.
 pub const LONGEST: usize = 65_535;
@@ -18,48 +22,51 @@ pub struct Followed {
     pub unreadable: Option<usize>,
 }
 
-enum Step {
-    Push(Vec<u8>),
-    Literal(u8),
-}
-
 pub fn follow(input: &[u8]) -> Followed {
     let mut stack = vec![0; STACK_LEN];
     let mut depth = 0;
     let mut answers = String::new();
+    let (steps, unreadable) = steps(input);
+    for (_, step) in steps {
+        let made = Record::of(step, &mut stack, depth);
+        depth = made.depth;
+        answers += &format!("{}\n", answer(made.report, &stack, depth));
+    }
+    if let Some(line) = unreadable {
+        answers += &format!("? line {line}\n");
+    }
+    Followed {
+        answers,
+        unreadable,
+    }
+}
+
+/// What is said of a step: the report, and the depth and the top of the stack after it.
+pub fn answer(report: u8, stack: &[u8], depth: usize) -> String {
+    let top = match view(stack, depth) {
+        None => "-".to_string(),
+        Some(start) => spaced(&stack[start..start + 5]),
+    };
+    format!("{report} {depth} {top}")
+}
+
+/// The steps of a sheet, each with the number of its line, up to the line that can't be read.
+pub fn steps(input: &[u8]) -> (Vec<(usize, Step)>, Option<usize>) {
+    let mut steps = Vec::new();
     let input = input.strip_prefix(BYTE_ORDER_MARK).unwrap_or(input);
     for (i, line) in lines(input).into_iter().enumerate() {
         let Some(words) = words(line) else {
-            return stopped(answers, i + 1);
+            return (steps, Some(i + 1));
         };
         if words.is_empty() {
             continue;
         }
-        let outcome = match step(&words) {
-            Some(Step::Push(number)) => push(&mut stack, depth, &number),
-            Some(Step::Literal(literal)) => operate(&mut stack, depth, literal),
-            None => return stopped(answers, i + 1),
+        let Some(step) = step(&words) else {
+            return (steps, Some(i + 1));
         };
-        depth = outcome.depth;
-        let top = match depth {
-            0 => "-".to_string(),
-            _ => slot(&stack, depth - 1)
-                .map(|b| format!("{b:02X}"))
-                .join(" "),
-        };
-        answers += &format!("{} {depth} {top}\n", outcome.report);
+        steps.push((i + 1, step));
     }
-    Followed {
-        answers,
-        unreadable: None,
-    }
-}
-
-fn stopped(answers: String, line: usize) -> Followed {
-    Followed {
-        answers: answers + &format!("? line {line}\n"),
-        unreadable: Some(line),
-    }
+    (steps, None)
 }
 
 /// A line ends with a line feed, a carriage return, or a carriage return and a line feed. The
@@ -102,20 +109,20 @@ fn step(words: &[&[u8]]) -> Option<Step> {
         }
         [_, _, _, _, _] => {
             let number: Option<Vec<u8>> = words.iter().map(|word| byte(word)).collect();
-            number.map(Step::Push)
+            Bytes::try_from(number?).ok().map(Step::Push)
         }
         _ => None,
     }
 }
 
 /// The short number of a value from -65,535 to 65,535.
-fn pushed(word: &[u8]) -> Option<Vec<u8>> {
+fn pushed(word: &[u8]) -> Option<Bytes> {
     let (sign, digits) = match word.strip_prefix(b"-") {
         Some(digits) => (-1, digits),
         None => (1, word),
     };
     let magnitude = decimal(digits)?;
-    (magnitude <= 65_535).then(|| short(sign * magnitude as i32, 0).to_vec())
+    (magnitude <= 65_535).then(|| short(sign * magnitude as i32, 0))
 }
 
 /// Any number of decimal digits, one at least. What is beyond all ranges here comes out as some

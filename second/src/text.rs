@@ -7,6 +7,12 @@ pub fn hex(bytes: &[u8]) -> String {
     bytes.iter().map(|b| format!("{b:02X}")).collect()
 }
 
+/// With blanks between, as programs print a number for people.
+pub fn spaced(bytes: &[u8]) -> String {
+    let words: Vec<String> = bytes.iter().map(|b| format!("{b:02X}")).collect();
+    words.join(" ")
+}
+
 /// The bytes of a case, as `LENGTH:HEX` or, where it is much shorter, as `LENGTH:HEX*`. Zeros at
 /// the end are left out only where they are many: it reads better.
 fn given(bytes: &[u8]) -> String {
@@ -51,12 +57,16 @@ pub fn case_line(case: &Case) -> String {
         Call::Push(number) => ('p', number.clone()),
         Call::Run(literals) => ('r', literals.clone()),
         Call::Cell(report) => ('c', vec![*report]),
+        Call::Replay(recording) => ('y', recording.clone()),
     };
     let stack = given(&case.stack);
     format!("{kind}{} {stack} {}", case.depth, given(&bytes))
 }
 
 pub fn answer_line(after: &After) -> String {
+    let field = after
+        .field
+        .map_or(String::new(), |field| format!("{field} "));
     let position = after.position.unwrap_or(0);
     let view = after
         .view
@@ -69,7 +79,7 @@ pub fn answer_line(after: &After) -> String {
     };
     let (stack, view) = (counted(&after.stack), counted(view));
     format!(
-        "{} {position} {} {stack} {view} {cell}",
+        "{field}{} {position} {} {stack} {view} {cell}",
         after.report, after.depth
     )
 }

@@ -1,4 +1,5 @@
 pub mod Replay
 pub mod ReplayLaws
 pub mod TopLaws
+pub mod Bounds
 pub mod Made

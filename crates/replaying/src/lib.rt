@@ -7,3 +7,4 @@ pub use answer::Field;
 pub use answer::Replayed;
 pub use answer::Verdict;
 pub use replaying::replay;
+pub use steps::top_differs;

@@ -40,7 +40,7 @@ pub(crate) fn step(stack: &mut [u8], depth: &mut usize, bytes: &[u8]) -> u8
 }
 
 // Not asked of a push. A stack without a top reads as zeros, which is what its record has.
-pub(crate) fn top_differs(stack: &[u8], depth: usize, bytes: &[u8]) -> bool
+pub fn top_differs(stack: &[u8], depth: usize, bytes: &[u8]) -> bool
     ensures { λ r. ⌜ r ≡ topDiffers (now (bytes .entry)) (now (stack .entry)) depth ⌝ }
 {
     if recording::literal_in(bytes) == 0 {

@@ -1,5 +1,6 @@
 //! What a random call is given.
 
+use super::recordings;
 use crate::draw;
 use crate::rng::Rng;
 use crate::text::counted;
@@ -13,6 +14,7 @@ pub enum Call {
     Run(Box<[u8]>),
     View,
     Cell(u8),
+    Replay(Box<[u8]>),
 }
 
 pub struct Given {
@@ -28,14 +30,22 @@ pub struct Given {
 
 impl Given {
     pub fn draw(rng: &mut Rng) -> Given {
-        let (stack, depth) = stack(rng);
-        let call = match rng.below(20) {
-            0..=8 => Call::Operate(draw::literal(rng)),
-            9..=10 => Call::Push(pushed(rng)),
-            11..=14 => Call::Run(list(rng)),
-            15..=16 => Call::View,
-            _ if rng.one_in(4) => Call::Cell(rng.byte()),
-            _ => Call::Cell(0),
+        let (call, stack, depth) = if rng.one_in(8) {
+            let (stack, recording) = recordings::draw(rng);
+            // What the depth's target holds before the call, which does not read it.
+            let junk = rng.bits() as usize;
+            (Call::Replay(recording), stack, junk)
+        } else {
+            let (stack, depth) = stack(rng);
+            let call = match rng.below(20) {
+                0..=8 => Call::Operate(draw::literal(rng)),
+                9..=10 => Call::Push(pushed(rng)),
+                11..=14 => Call::Run(list(rng)),
+                15..=16 => Call::View,
+                _ if rng.one_in(4) => Call::Cell(rng.byte()),
+                _ => Call::Cell(0),
+            };
+            (call, stack, depth)
         };
         Given {
             call,
@@ -114,6 +124,7 @@ impl fmt::Display for Given {
             Call::Run(literals) => write!(f, "run of {}", counted(literals))?,
             Call::View => write!(f, "view")?,
             Call::Cell(report) => write!(f, "cell, report {report}")?,
+            Call::Replay(recording) => write!(f, "replay of {}", counted(recording))?,
         }
         write!(
             f,

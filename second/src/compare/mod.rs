@@ -2,11 +2,13 @@
 //! be seen of it: the answer, what it wrote through each pointer, and every lent byte.
 
 mod given;
+mod recordings;
 mod seen;
+mod tally;
 
 use crate::rng::Rng;
 use given::Given;
-pub use seen::Tally;
+pub use tally::Tally;
 
 /// The case of this number. It depends on the seed and the number alone, so that a case
 /// that differs can be had again.
@@ -15,7 +17,7 @@ pub fn one(seed: u64, number: u64, tally: &mut Tally) -> Result<(), String> {
     let given = Given::draw(&mut rng);
     let expected = seen::reference(&given);
     let found = seen::native(&given, number.is_multiple_of(2));
-    tally.count(&given, &expected);
+    tally.count(&given.call, &expected);
     if expected == found {
         Ok(())
     } else {

@@ -4,20 +4,23 @@ use super::given::{Call, Given};
 use crate::text::counted;
 use crate::{native, reference, Cell};
 use std::fmt;
+use std::hint::black_box;
 
 #[derive(PartialEq, Eq)]
 pub struct Seen {
     /// The report, the view's length, or the cell's kind.
-    answer: usize,
+    pub answer: usize,
     depth: usize,
-    /// The position of a run, the start of a view.
+    /// The position of a run, the start of a view, the count of a replay.
     word: usize,
-    /// The report that a cell names.
-    byte: u8,
+    /// The report that a cell names, the field of a replay.
+    pub byte: u8,
     /// The bits of a cell's double.
     bits: u64,
     stack: Vec<u8>,
     beside_untouched: bool,
+    /// The bytes that a call only reads are as they were.
+    read_untouched: bool,
 }
 
 impl Seen {
@@ -30,6 +33,7 @@ impl Seen {
             bits: given.old_bits,
             stack: Vec::new(),
             beside_untouched: true,
+            read_untouched: true,
         }
     }
 }
@@ -62,6 +66,11 @@ pub fn reference(given: &Given) -> Seen {
             Cell::Odd => seen.answer = native::ODD.into(),
             Cell::Value(bits) => (seen.answer, seen.bits) = (native::VALUE.into(), bits),
         },
+        Call::Replay(recording) => {
+            let o = reference::replay(&mut stack, recording);
+            (seen.answer, seen.depth) = (o.report.into(), o.depth);
+            (seen.word, seen.byte) = (o.count, o.field_number());
+        }
     }
     seen.stack = stack;
     seen
@@ -99,6 +108,14 @@ fn call(given: &Given, stack: &mut [u8], seen: &mut Seen) {
             seen.bits = value.to_bits();
             kind.into()
         }
+        Call::Replay(recording) => {
+            // Lent from a copy of its own length, which is then looked at.
+            let lent = recording.clone();
+            let (count, field, depth) = (&mut seen.word, &mut seen.byte, &mut seen.depth);
+            let answer = native::replay(stack, black_box(&lent), count, field, depth);
+            seen.read_untouched = *black_box(&lent) == *recording;
+            answer.into()
+        }
     };
 }
 
@@ -106,49 +123,15 @@ impl fmt::Display for Seen {
     fn fmt(&self, f: &mut fmt::Formatter) -> fmt::Result {
         writeln!(
             f,
-            "answer {}, depth {}, position or start {}, named report {}, double {:016X}",
+            "answer {}, depth {}, position, start or count {}, named report or field {}, double {:016X}",
             self.answer, self.depth, self.word, self.byte, self.bits
         )?;
         write!(f, "stack {}", counted(&self.stack))?;
         if !self.beside_untouched {
             write!(f, "\nbytes beside the stack were written")?;
         }
-        Ok(())
-    }
-}
-
-/// How many cases of each kind there were, and how often each report was given.
-#[derive(Default)]
-pub struct Tally {
-    kinds: [u64; 5],
-    reports: [u64; 7],
-}
-
-impl Tally {
-    pub fn count(&mut self, given: &Given, expected: &Seen) {
-        let kind = match given.call {
-            Call::Operate(_) => 0,
-            Call::Push(_) => 1,
-            Call::Run(_) => 2,
-            Call::View => 3,
-            Call::Cell(_) => 4,
-        };
-        self.kinds[kind] += 1;
-        if kind < 3 {
-            self.reports[expected.answer] += 1;
-        }
-    }
-}
-
-impl fmt::Display for Tally {
-    fn fmt(&self, f: &mut fmt::Formatter) -> fmt::Result {
-        let [operate, push, run, view, cell] = self.kinds;
-        write!(
-            f,
-            "operate {operate}, push {push}, run {run}, view {view}, cell {cell}; report"
-        )?;
-        for (report, count) in self.reports.iter().enumerate() {
-            write!(f, " {report}: {count}")?;
+        if !self.read_untouched {
+            write!(f, "\nbytes of the recording were written")?;
         }
         Ok(())
     }

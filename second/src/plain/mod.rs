@@ -6,11 +6,13 @@ mod division;
 mod multiplication;
 mod number;
 mod operate;
+mod replay;
 mod run;
 mod sum;
 mod whole;
 
 pub use operate::operate;
+pub use replay::replay;
 pub use run::run;
 
 use crate::reference::{DONE, LIMITS, MALFORMED, NO_ROOM};

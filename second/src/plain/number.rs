@@ -17,7 +17,7 @@ pub fn bits(x: &Slot) -> u32 {
 }
 
 #[inline(always)]
-fn store_bits(x: &mut Slot, bits: u32) {
+pub fn store_bits(x: &mut Slot, bits: u32) {
     *x.last_chunk_mut().unwrap() = bits.to_le_bytes();
 }
 

@@ -38,7 +38,7 @@ pub fn run(stack: &mut [u8], depth: &mut usize, literals: &[u8], position: &mut 
 
 /// The report, and the depth after it.
 #[inline(always)]
-fn step(slots: &mut [Slot], depth: usize, literal: u8) -> (u8, usize) {
+pub fn step(slots: &mut [Slot], depth: usize, literal: u8) -> (u8, usize) {
     macro_rules! one {
         ($f:ident) => {
             match slots.get_mut(depth.wrapping_sub(1)) {

@@ -1,6 +1,6 @@
-//! The second implementation, from document 01 and A1 of document 02: exact whole numbers on
-//! i128. The calls here are document 01's "Reports, and which comes first"; each other module
-//! is one of its headings, or A1.
+//! The second implementation, from document 01 and A1 and A5 of document 02: exact whole numbers
+//! on i128. The calls here are document 01's "Reports, and which comes first"; each other module
+//! is one of its headings, or A1, or A5.
 
 pub mod addition;
 pub mod cell;
@@ -9,10 +9,12 @@ pub mod ending;
 pub mod literals;
 pub mod multiplication;
 pub mod number;
+pub mod replay;
 pub mod truncation;
 
 use crate::{Bytes, Outcome, RunOutcome};
 pub use cell::{cell, view};
+pub use replay::replay;
 
 pub const DONE: u8 = 0;
 pub const LIMITS: u8 = 1;

@@ -1,4 +1,4 @@
-//! Sheets drawn at random: mostly lines that can be read, and in half of the sheets a slip.
+//! Sheets drawn at random: mostly lines that can be read, and in some of the sheets a slip.
 
 use crate::draw;
 use crate::reference::literals::NAMES;
@@ -10,9 +10,10 @@ const BYTE_ORDER_MARK: &[u8] = b"\xEF\xBB\xBF";
 /// Bytes that a slip puts where they do not belong.
 const STRAY: &[u8] = b"\0\x01\x07\x08\x0B\x0C\x1B\x7F\x80\xA0\xBB\xBF\xEF\xFF\r\n\t -+#O0.,:";
 
-pub fn sheet(rng: &mut Rng) -> Vec<u8> {
+/// One in so many has a slip.
+pub fn sheet(rng: &mut Rng, slips: u64) -> Vec<u8> {
     let lines = 1 + rng.below(40);
-    let slip = rng.one_in(2).then(|| rng.below(lines));
+    let slip = rng.one_in(slips).then(|| rng.below(lines));
     let ends = rng.pick(&[
         &["\n"][..],
         &["\n"],

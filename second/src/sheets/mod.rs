@@ -1,12 +1,13 @@
 //! Random sheets through the built program `calc`, each held to the reference in its standard
 //! output, byte for byte, and in whether standard error says that a line can't be read.
 
-mod draw;
+pub mod draw;
 
+use crate::program::{run, shown};
 use crate::rng::Rng;
 use crate::sheet::{follow, Followed};
-use std::io::{ErrorKind, Result, Write};
-use std::process::{Command, Output, Stdio};
+use std::io::Result;
+use std::process::Output;
 
 /// How one sheet came out.
 pub enum Found {
@@ -21,7 +22,7 @@ pub enum Found {
 /// differs can be had again.
 pub fn one(program: &str, seed: u64, number: u64) -> Result<Found> {
     let mut rng = Rng::new(seed ^ number.wrapping_mul(0xD134_2543_DE82_EF95));
-    let sheet = draw::sheet(&mut rng);
+    let sheet = draw::sheet(&mut rng, 2);
     let expected = follow(&sheet);
     let found = run(program, &sheet)?;
     Ok(if agree(&expected, &found) {
@@ -31,23 +32,6 @@ pub fn one(program: &str, seed: u64, number: u64) -> Result<Found> {
     } else {
         Found::Differs(difference(&sheet, &expected, &found))
     })
-}
-
-/// A program that stops at a line may leave the rest unread. Its answers fit a pipe, so that it
-/// can be given all its input first.
-fn run(program: &str, sheet: &[u8]) -> Result<Output> {
-    let mut child = Command::new(program)
-        .stdin(Stdio::piped())
-        .stdout(Stdio::piped())
-        .stderr(Stdio::piped())
-        .spawn()?;
-    if let Some(mut input) = child.stdin.take() {
-        match input.write_all(sheet) {
-            Err(error) if error.kind() != ErrorKind::BrokenPipe => return Err(error),
-            _ => {}
-        }
-    }
-    child.wait_with_output()
 }
 
 /// A program of ours has no status of its own, but it must not have been ended by a signal.
@@ -68,22 +52,4 @@ fn difference(sheet: &[u8], expected: &Followed, found: &Output) -> String {
         shown(&found.stdout),
         shown(&found.stderr)
     )
-}
-
-/// Bytes that can be read on a terminal: those that are no plain ones by their numbers, and many
-/// equal ones as one and their count.
-fn shown(bytes: &[u8]) -> String {
-    let mut text = String::new();
-    for run in bytes.chunk_by(|a, b| a == b) {
-        let byte = run[..1].escape_ascii().to_string();
-        if run.len() > 40 {
-            text += &format!("{byte}({} times)", run.len());
-        } else {
-            text += &byte.repeat(run.len());
-        }
-        if run[0] == b'\n' {
-            text.push('\n');
-        }
-    }
-    text
 }

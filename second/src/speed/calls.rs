@@ -1,4 +1,4 @@
-//! The five calls of a side, all of the C interface's types.
+//! The six calls of a side, all of the C interface's types.
 
 use crate::native::*;
 use crate::{plain, Cell};
@@ -10,7 +10,11 @@ pub struct Calls {
     pub run: unsafe extern "C" fn(*mut u8, usize, *mut usize, *const u8, usize, *mut usize) -> u8,
     pub view: unsafe extern "C" fn(*const u8, usize, usize, *mut usize) -> usize,
     pub cell: unsafe extern "C" fn(u8, *const u8, usize, usize, *mut u8, *mut f64) -> u8,
+    pub replay: Replay,
 }
+
+pub type Replay =
+    unsafe extern "C" fn(*mut u8, usize, *const u8, usize, *mut usize, *mut u8, *mut usize) -> u8;
 
 pub static OURS: Calls = Calls {
     operate: trenailer_operate,
@@ -18,6 +22,7 @@ pub static OURS: Calls = Calls {
     run: trenailer_run,
     view: trenailer_view,
     cell: trenailer_cell,
+    replay: trenailer_replay,
 };
 
 pub static PLAIN: Calls = Calls {
@@ -26,6 +31,7 @@ pub static PLAIN: Calls = Calls {
     run: plain_run,
     view: plain_view,
     cell: plain_cell,
+    replay: plain_replay,
 };
 
 pub static EMPTY: Calls = Calls {
@@ -34,6 +40,7 @@ pub static EMPTY: Calls = Calls {
     run: empty_run,
     view: empty_view,
     cell: empty_cell,
+    replay: empty_replay,
 };
 
 // SAFETY of what follows: as for the C interface, every pointer is lent for the call with
@@ -104,6 +111,20 @@ unsafe extern "C" fn plain_cell(
     }
 }
 
+unsafe extern "C" fn plain_replay(
+    s: *mut u8,
+    len: usize,
+    recording: *const u8,
+    recording_len: usize,
+    count: *mut usize,
+    field: *mut u8,
+    depth: *mut usize,
+) -> u8 {
+    let recording = from_raw_parts(recording, recording_len);
+    let stack = from_raw_parts_mut(s, len);
+    plain::replay(stack, recording, &mut *count, &mut *field, &mut *depth)
+}
+
 unsafe extern "C" fn empty_operate(_: *mut u8, _: usize, _: *mut usize, _: u8) -> u8 {
     0
 }
@@ -134,6 +155,18 @@ unsafe extern "C" fn empty_cell(
     _: usize,
     _: *mut u8,
     _: *mut f64,
+) -> u8 {
+    0
+}
+
+unsafe extern "C" fn empty_replay(
+    _: *mut u8,
+    _: usize,
+    _: *const u8,
+    _: usize,
+    _: *mut usize,
+    _: *mut u8,
+    _: *mut usize,
 ) -> u8 {
     0
 }

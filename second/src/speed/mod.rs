@@ -3,6 +3,7 @@
 
 pub mod callgrind;
 pub mod calls;
+pub mod counted;
 pub mod operands;
 pub mod report;
 pub mod rows;

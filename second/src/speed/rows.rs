@@ -1,5 +1,7 @@
-//! What is measured, a row each: operands drawn from a fixed seed, none of them refused.
+//! What is measured, a row each: operands drawn from a fixed seed, none of them refused but some
+//! of a replay.
 
+use super::counted;
 use super::operands::{accepted, near, operand, Mix};
 use super::work::{Call, Stacks, Work};
 use crate::reference::{
@@ -42,6 +44,7 @@ pub fn all() -> Vec<Work> {
         });
     }
     all.push(mixed_run(&mut rng));
+    all.push(counted::replay(&mut rng));
     all
 }
 

@@ -1,6 +1,7 @@
 //! A piece of work: calls of one kind, and the stacks they are made on.
 
 use super::calls::Calls;
+use crate::reference::replay::RECORD;
 use std::hint::black_box;
 
 pub enum Call {
@@ -11,6 +12,8 @@ pub enum Call {
     Cell,
     /// These literals in one call.
     Run(Vec<u8>),
+    /// This recording in one call.
+    Replay(Vec<u8>),
 }
 
 /// So many stacks: the i-th is the `len` bytes from `i * step` on. A call borrows its own
@@ -52,6 +55,7 @@ impl Work {
     pub fn operations(&self) -> usize {
         match &self.call {
             Call::Run(literals) => literals.len(),
+            Call::Replay(recording) => recording.len() / RECORD,
             _ => self.stacks.count(),
         }
     }
@@ -107,6 +111,13 @@ impl Work {
                     let (list, count) = (literals.as_ptr(), literals.len());
                     let (depth, position) = (&mut area.depths[0], &mut area.start);
                     let report = (calls.run)(stacks, len, depth, list, count, position);
+                    answers += usize::from(report);
+                }
+                Call::Replay(recording) => {
+                    let (records, length) = (recording.as_ptr(), recording.len());
+                    let (count, field) = (&mut area.start, &mut area.refused);
+                    let depth = &mut area.depths[0];
+                    let report = (calls.replay)(stacks, len, records, length, count, field, depth);
                     answers += usize::from(report);
                 }
             }

@@ -6,7 +6,7 @@ use crate::case::{Call, Case};
 use crate::text::{answer_line, hex};
 
 /// The longest line, with its line feed.
-const LONGEST: usize = 65_536;
+pub const LONGEST: usize = 65_536;
 
 /// Ways to write the report 2 at depth 1 of the stack 82 40 00 00 00.
 const RIGHT: [&str; 6] = [

@@ -10,6 +10,7 @@ mod multiplication;
 mod one_number;
 mod paper;
 mod random;
+mod replays;
 mod reports;
 mod runs;
 
@@ -29,8 +30,8 @@ pub struct Vectors {
 
 const HEADER: &str = "\
 # Cases for the calculator, made by second/vectors. A line is KIND and DEPTH, STACK, BYTES:
-# o operate, p push, r run, c the view and the cell with a report; bytes as LENGTH:HEX, where
-# zeros at the end may be left out, or as LENGTH:HEX*, repeated up to the length.
+# o operate, p push, r run, c the view and the cell with a report, y replay; bytes as LENGTH:HEX,
+# where zeros at the end may be left out, or as LENGTH:HEX*, repeated up to the length.
 ";
 
 impl Vectors {
@@ -41,7 +42,9 @@ impl Vectors {
 
     fn case(&mut self, case: Case) -> After {
         let after = case.answer();
-        self.line(&text::case_line(&case), &text::answer_line(&after));
+        let line = text::case_line(&case);
+        assert!(line.len() < lines::LONGEST, "a line of {}", line.len());
+        self.line(&line, &text::answer_line(&after));
         after
     }
 
@@ -140,5 +143,6 @@ pub fn all() -> Vectors {
     deep::cases(&mut v);
     long::cases(&mut v);
     lines::cases(&mut v);
+    replays::cases(&mut v);
     v
 }

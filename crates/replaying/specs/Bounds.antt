@@ -1,0 +1,42 @@
+-- The records that a replay speaks of are there: as many as agree, or the one that differs.
+use Prim.Native.Nat.{ℕ, zero, suc, _+_, _*_, _≤_}
+use mathlib.Core.Path.{_≡_}
+use mathlib.Core.Bool.{Bool, true, false, cond}
+use mathlib.Core.List.{List}
+use native.Mathlib.Omega.{arith}
+use lib.ListN.{length}
+use Rattle.slots.specs.Reports.{overLimits}
+use Rattle.recording.specs.Recording.{first, later, records, notARecording}
+use Rattle.replaying.specs.declared.answer.Replayed.{Replayed}
+use Rattle.replaying.specs.declared.answer.Verdict.{Verdict}
+use Rattle.replaying.specs.declared.answer.Verdict.the-variants.{Agree, Differ, Refused}
+use Rattle.replaying.specs.declared.answer.Field.the-variants.{Report, Depth, Top}
+use Rattle.replaying.specs.Replay.{stepOf, reportDiffers, depthDiffers, topDiffers, differs, goOn, refused, replayOf}
+
+-- how many records a verdict speaks of
+unfoldable pub spoken : Verdict → ℕ
+spoken (Agree n) = n
+spoken (Differ n f) = n + 1
+spoken (Refused n) = 0
+
+module _ (k : ℕ) where
+  abbrev Within : Replayed × List ℕ → Type 0
+  Within x = spoken (x .0 .verdict) ≤ k
+
+  either : (b : Bool) (x y : Replayed × List ℕ) → Within x → Within y → Within (cond b x y)
+  either true x y p q = p
+  either false x y p q = q
+
+  left-within : (n : ℕ) (r : List ℕ) (i : ℕ) (s : List ℕ) (d : ℕ) → i + n ≤ k → Within (goOn n r i s d)
+  unfolding goOn spoken
+  left-within zero r i s d h = omega arith
+  left-within (suc n) r i s d h =
+      let o = stepOf s d (first r) in
+      either (reportDiffers (first r) (o .0 .report)) _ _ (omega arith)
+      (either (depthDiffers (first r) (o .0 .depth)) _ _ (omega arith)
+      (either (topDiffers (first r) (o .1) (o .0 .depth)) _ _ (omega arith) (left-within n (later r) (i + 1) (o .1) (o .0 .depth) (omega arith))))
+
+pub spoken-within : (s r : List ℕ) → spoken (replayOf s r .0 .verdict) ≤ records r
+unfolding replayOf spoken
+spoken-within s r =
+    either (records r) (overLimits s 0) _ _ (omega arith) (either (records r) (notARecording r) _ _ (omega arith) (left-within (records r) (records r) r 0 s 0 (omega arith)))

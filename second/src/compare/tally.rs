@@ -1,0 +1,55 @@
+//! How many cases of each kind there were, how often each report was given, and how the replays
+//! came out.
+
+use super::given::Call;
+use super::seen::Seen;
+use std::fmt;
+
+#[derive(Default)]
+pub struct Tally {
+    kinds: [u64; 6],
+    /// Of operate, push and run.
+    reports: [u64; 7],
+    /// By the field that differs; 0 is that all agree.
+    replays: [u64; 4],
+    refused: u64,
+}
+
+impl Tally {
+    pub fn count(&mut self, call: &Call, expected: &Seen) {
+        let kind = match call {
+            Call::Operate(_) => 0,
+            Call::Push(_) => 1,
+            Call::Run(_) => 2,
+            Call::View => 3,
+            Call::Cell(_) => 4,
+            Call::Replay(_) => 5,
+        };
+        self.kinds[kind] += 1;
+        match kind {
+            0..=2 => self.reports[expected.answer] += 1,
+            5 if expected.answer == 0 => self.replays[usize::from(expected.byte)] += 1,
+            5 => self.refused += 1,
+            _ => {}
+        }
+    }
+}
+
+impl fmt::Display for Tally {
+    fn fmt(&self, f: &mut fmt::Formatter) -> fmt::Result {
+        let [operate, push, run, view, cell, replay] = self.kinds;
+        write!(
+            f,
+            "operate {operate}, push {push}, run {run}, view {view}, cell {cell}; report"
+        )?;
+        for (report, count) in self.reports.iter().enumerate() {
+            write!(f, " {report}: {count}")?;
+        }
+        let [agree, report, depth, top] = self.replays;
+        write!(
+            f,
+            "\nreplay {replay}: agree {agree}, differ in report {report}, depth {depth}, top {top}, refused {}",
+            self.refused
+        )
+    }
+}
