@@ -1,3 +1,4 @@
 pub mod Verdict
 pub mod Names
 pub mod Page
+pub mod PageLaws

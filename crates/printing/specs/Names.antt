@@ -5,10 +5,15 @@ use mathlib.Core.Bool.{cond}
 use mathlib.Core.List.{List, _++_}
 use lib.Dec.{eqb}
 use borrow.Author.Tests.{ne-eqb}
+use Rattle.text.specs.Put.{Text, putsOf}
 use Rattle.text.specs.Ascii.{ascii}
 use Rattle.text.specs.Digits.{decimalOf}
 use Rattle.sheet.specs.Begins.{begins}
 use Rattle.sheet.specs.Names.{ifNamed, laterOf, literalOf}
+
+-- what is put may be said in another way
+pub puts-same : (t : Text) {u : Text} {xs ys : List ℕ} → xs ≡ ys → u ≡ putsOf t xs → u ≡ putsOf t ys
+puts-same t f e = rw (← f) e
 
 -- one that is in no row, as a sheet asks for it
 abbrev pub numberName : ℕ → List ℕ

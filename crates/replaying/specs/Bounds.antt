@@ -10,6 +10,7 @@ use Rattle.recording.specs.Recording.{first, later, records, notARecording}
 use Rattle.replaying.specs.declared.answer.Replayed.{Replayed}
 use Rattle.replaying.specs.declared.answer.Verdict.{Verdict}
 use Rattle.replaying.specs.declared.answer.Verdict.the-variants.{Agree, Differ, Refused}
+use Rattle.replaying.specs.declared.answer.Field.{Field}
 use Rattle.replaying.specs.declared.answer.Field.the-variants.{Report, Depth, Top}
 use Rattle.replaying.specs.Replay.{stepOf, reportDiffers, depthDiffers, topDiffers, differs, goOn, refused, replayOf}
 
@@ -40,3 +41,13 @@ pub spoken-within : (s r : List ℕ) → spoken (replayOf s r .0 .verdict) ≤ r
 unfolding replayOf spoken
 spoken-within s r =
     either (records r) (overLimits s 0) _ _ (omega arith) (either (records r) (notARecording r) _ _ (omega arith) (left-within (records r) (records r) r 0 s 0 (omega arith)))
+
+-- so their bytes are there
+module _ (r : List ℕ) (v : Verdict) (n : ℕ) (h : spoken v ≤ records r) where
+  pub agree-fits : v ≡ Agree n → 16 * n ≤ length r
+  unfolding spoken
+  agree-fits e = let k : n ≤ records r = rw e at h in omega arith
+
+  pub differ-fits : {f : Field} → v ≡ Differ n f → 16 * (n + 1) ≤ length r
+  unfolding spoken
+  differ-fits e = let k : n + 1 ≤ records r = rw e at h in omega arith

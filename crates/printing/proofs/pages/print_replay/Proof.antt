@@ -1,0 +1,13 @@
+-- `print_replay` meets its contract: the replay, and the line for its verdict.
+use Prim.Native.Nat.{ℕ}
+use mathlib.Core.Path.{ap}
+use mathlib.Core.List.{List}
+use Rattle.text.specs.Put.{Text}
+use Rattle.printing.proofs.pages.print_replay.Statement.{statement}
+use Rattle.printing.proofs.pages.print_replay.Tie as tie
+
+returns : tie.Need-returns
+returns c = rw (c .before .before .before .before .before .before .replay .ensures) (ap (λ (t : Text). (c .before .before .before .before .before .before .replay .last .0, t)) (c .before .before .put-verdict .ensures))
+
+pub print-replay-spec : {M : Type 1} → statement M
+print-replay-spec = tie.close (tie.spec (λ c κs. tt) (λ c κs. tt) (λ c. c .before .before .before .before .before .before .replay .kept .0) (λ c. c .before .before .put-verdict .kept .0) returns)
