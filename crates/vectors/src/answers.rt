@@ -52,8 +52,8 @@ fn put_cell(out: &mut [u8], at: usize, cell: Cell) -> usize {
     put_number(out, next, number_of(cell), b'\n')
 }
 
-fn put_outcome(out: &mut [u8], report: u8, position: usize, depth: usize) -> usize {
-    let second = put_number(out, 0, report as u64, b' ');
+fn put_outcome(out: &mut [u8], at: usize, report: u8, position: usize, depth: usize) -> usize {
+    let second = put_number(out, at, report as u64, b' ');
     let third = put_number(out, second, position as u64, b' ');
     put_number(out, third, depth as u64, b' ')
 }
@@ -79,7 +79,22 @@ fn write(bytes: &[u8]) -> bool {
 // A stack of 17,000 bytes and the rest of its answer fit the buffer.
 pub(crate) fn write_answer(report: u8, position: usize, stack: &[u8], depth: usize) -> bool {
     let mut out = io::large_buffer();
-    let next = put_outcome(&mut out, report, position, depth);
+    let next = put_outcome(&mut out, 0, report, position, depth);
+    let end = put_seen(&mut out, next, report, stack, depth);
+    write(text::first(&out, end))
+}
+
+// The field that differs comes before the rest.
+pub(crate) fn write_replayed(
+    field: u8,
+    report: u8,
+    count: usize,
+    stack: &[u8],
+    depth: usize,
+) -> bool {
+    let mut out = io::large_buffer();
+    let first = put_number(&mut out, 0, field as u64, b' ');
+    let next = put_outcome(&mut out, first, report, count, depth);
     let end = put_seen(&mut out, next, report, stack, depth);
     write(text::first(&out, end))
 }
