@@ -2,3 +2,4 @@ pub mod Verdict
 pub mod Names
 pub mod Page
 pub mod PageLaws
+pub mod Room

@@ -1,7 +1,7 @@
 -- Laws of a recording: when two lists are the same, where a record's bytes stand, and the test of a recording, a law a way out.
 use Prim.Native.Nat.{ℕ, suc, _+_, _-_, _*_, _%_, _≤_, _<_}
 use mathlib.Core.Path.{_≡_, refl, sym, _∙_, ap}
-use mathlib.Core.Bool.{Bool, true, false, true≢false, false≢true, not, _&&_, and-eq-true-iff}
+use mathlib.Core.Bool.{Bool, true, false, true≢false, false≢true, not, _&&_, _||_, and-eq-true-iff}
 use mathlib.Core.List.{List, [], _∷_}
 use native.Mathlib.Omega.{arith}
 use native.Mathlib.Numerals.{towards-suc}
@@ -130,3 +130,11 @@ module _ (x : List ℕ) where
 
   pub top-none : length x ≤ 4 → [] ≡ topIn x
   top-none h = rw (drop-of-length-le x h) refl
+
+pub not-too-long : (r : List ℕ) → notARecording r ≡ false → length r ≤ 64000
+unfolding notARecording
+not-too-long r h = go (ltb 64000 (length r)) refl h
+  where
+    go : (b : Bool) → ltb 64000 (length r) ≡ b → b || not (eqb (length r % 16) 0) || stray (records r) r ≡ false → length r ≤ 64000
+    go true e k = absurd (true≢false k)
+    go false e k = ltb-false _ _ e

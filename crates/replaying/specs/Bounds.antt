@@ -1,12 +1,13 @@
 -- The records that a replay speaks of are there: as many as agree, or the one that differs.
 use Prim.Native.Nat.{ℕ, zero, suc, _+_, _*_, _≤_}
-use mathlib.Core.Path.{_≡_}
+use mathlib.Core.Path.{_≡_, refl}
 use mathlib.Core.Bool.{Bool, true, false, cond}
 use mathlib.Core.List.{List}
 use native.Mathlib.Omega.{arith}
 use lib.ListN.{length}
 use Rattle.slots.specs.Reports.{overLimits}
 use Rattle.recording.specs.Recording.{first, later, records, notARecording}
+use Rattle.recording.specs.RecordingLaws.{not-too-long}
 use Rattle.replaying.specs.declared.answer.Replayed.{Replayed}
 use Rattle.replaying.specs.declared.answer.Verdict.{Verdict}
 use Rattle.replaying.specs.declared.answer.Verdict.the-variants.{Agree, Differ, Refused}
@@ -51,3 +52,12 @@ module _ (r : List ℕ) (v : Verdict) (n : ℕ) (h : spoken v ≤ records r) whe
   pub differ-fits : {f : Field} → v ≡ Differ n f → 16 * (n + 1) ≤ length r
   unfolding spoken
   differ-fits e = let k : n + 1 ≤ records r = rw e at h in omega arith
+
+-- and no recording has more than 4,000
+pub spoken-most : (s r : List ℕ) → spoken (replayOf s r .0 .verdict) ≤ 4000
+unfolding replayOf spoken
+spoken-most s r = either 4000 (overLimits s 0) _ _ (omega arith) (go (notARecording r) refl)
+  where
+    go : (b : Bool) → notARecording r ≡ b → Within 4000 (cond b (refused 8, s) (goOn (records r) r 0 s 0))
+    go true e = omega arith
+    go false e = left-within 4000 (records r) r 0 s 0 (omega (arith, not-too-long r e))

@@ -12,6 +12,7 @@ use Rattle.text.specs.Digits.{decimalOf, eachOf, digits-length, each-length}
 use Rattle.slots.specs.Slots.{slot}
 use Rattle.slots.specs.Reports.{overLimits}
 use Rattle.slots.specs.View.{viewOf}
+use Rattle.slots.specs.ViewLaws.{view-length}
 use Rattle.sheet.specs.Blanks.{toldOf, trimmed}
 use Rattle.sheet.specs.Line.{lineOf}
 use Rattle.sheet.specs.declared.meaning.Line.{Line}
@@ -53,14 +54,6 @@ said-room terminal number text (Literal l) = omega arith
 said-room true number text (Unreadable f) = complaint-length (ascii "line ") number text f (ascii "; type it again\n") (omega arith) (omega arith)
 said-room false number text (Unreadable f) =
     complaint-length (ascii "calc: line ") number text f (ascii "; nothing from this line on was done\n") (omega arith) (omega arith)
-
-view-length : (s : List ℕ) (d : ℕ) → length (viewOf s d) ≤ 5
-unfolding viewOf slot
-view-length s d = go (overLimits s d || eqb d 0)
-  where
-    go : (t : Bool) → length (cond t [] (take 5 (drop (5 * (d - 1)) s))) ≤ 5
-    go true = omega arith
-    go false = omega (arith, length-take 5 (drop (5 * (d - 1)) s))
 
 -- a line that is done
 module _ (terminal : Bool) (s : List ℕ) (d number : ℕ) (line out err : List ℕ) where
