@@ -1,12 +1,12 @@
 -- The page, a law a case.
 use Prim.Native.Nat.{ℕ, suc, _+_, _-_, _*_, _≤_, _<_}
 use mathlib.Core.Path.{_≡_, refl, _∙_, ap}
-use mathlib.Core.Bool.{Bool, true, false}
-use mathlib.Core.List.{List, [], append-assoc}
+use mathlib.Core.Bool.{true, false}
+use mathlib.Core.List.{List, []}
 use native.Mathlib.Omega.{arith}
-use lib.ListN.{length, drop}
+use lib.ListN.{drop}
 use borrow.Author.Tests.{eq-eqb, ne-eqb}
-use Rattle.text.specs.Put.{Text, putsOf, puts-then, puts-join}
+use Rattle.text.specs.Put.{Text, putsOf, puts-join}
 use Rattle.wording.specs.Wording.{stepAnswer}
 use Rattle.recording.specs.Recording.{literalIn, depthIn, topIn, first}
 use Rattle.recording.specs.RecordingLaws.{next-record}

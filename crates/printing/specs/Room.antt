@@ -1,11 +1,11 @@
 -- Buffers of 64 and 460,000 bytes have room for all that `replay` and `show` print: what stands in them is the line and the page, whole.
 use Prim.Native.Nat.{ℕ, zero, suc, _+_, _*_, _≤_}
-use mathlib.Core.Path.{_≡_, _∙_}
+use mathlib.Core.Path.{_≡_}
 use mathlib.Core.Bool.{Bool, true, false, cond, not, _||_}
 use mathlib.Core.List.{List, [], _∷_, _++_}
 use native.Mathlib.Omega.{arith}
 use lib.Dec.{eqb}
-use lib.ListN.{length, take, drop, length-append, length-take}
+use lib.ListN.{length, drop, length-append, length-take}
 use Rattle.text.specs.Ascii.{ascii}
 use Rattle.text.specs.Put.{before, putsOf, puts-whole}
 use Rattle.text.specs.Digits.{decimalOf, digits-length}
@@ -13,7 +13,7 @@ use Rattle.slots.specs.View.{viewOf}
 use Rattle.slots.specs.ViewLaws.{view-length}
 use Rattle.wording.specs.Wording.{stepAnswer}
 use Rattle.wording.specs.Room.{step-room}
-use Rattle.recording.specs.Recording.{literalIn, reportIn, depthIn, topIn, first, later, records}
+use Rattle.recording.specs.Recording.{literalIn, reportIn, depthIn, first, later}
 use Rattle.replaying.specs.declared.answer.Verdict.{Verdict}
 use Rattle.replaying.specs.declared.answer.Verdict.the-variants.{Agree, Differ, Refused}
 use Rattle.replaying.specs.declared.answer.Field.{Field}
@@ -21,7 +21,7 @@ use Rattle.replaying.specs.declared.answer.Field.the-variants.{Report, Depth, T
 use Rattle.replaying.specs.Replay.{isPush, topDiffers, replayOf}
 use Rattle.replaying.specs.Bounds.{spoken, spoken-most}
 use Rattle.printing.specs.Verdict.{fieldName, verdictLine}
-use Rattle.printing.specs.Names.{numberName, nameOf}
+use Rattle.printing.specs.Names.{nameOf}
 use Rattle.printing.specs.Page.{shownTop, recordLine, recordLines, doneLines, answerOf, pageOf}
 
 either : (b : Bool) (k : ℕ) (xs ys : List ℕ) → length xs ≤ k → length ys ≤ k → length (cond b xs ys) ≤ k

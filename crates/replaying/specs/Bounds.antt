@@ -12,8 +12,7 @@ use Rattle.replaying.specs.declared.answer.Replayed.{Replayed}
 use Rattle.replaying.specs.declared.answer.Verdict.{Verdict}
 use Rattle.replaying.specs.declared.answer.Verdict.the-variants.{Agree, Differ, Refused}
 use Rattle.replaying.specs.declared.answer.Field.{Field}
-use Rattle.replaying.specs.declared.answer.Field.the-variants.{Report, Depth, Top}
-use Rattle.replaying.specs.Replay.{stepOf, reportDiffers, depthDiffers, topDiffers, differs, goOn, refused, replayOf}
+use Rattle.replaying.specs.Replay.{stepOf, reportDiffers, depthDiffers, topDiffers, goOn, refused, replayOf}
 
 -- how many records a verdict speaks of
 unfoldable pub spoken : Verdict → ℕ

@@ -1,30 +1,22 @@
 -- The replay, a law a turn: there is no record left, the next one differs, or it agrees.
-use Prim.Native.Nat.{ℕ, suc, _+_, _-_, _*_, _≤_, _<_}
-use mathlib.Core.Path.{_≡_, refl, sym, _∙_, ap}
-use mathlib.Core.Bool.{Bool, true, false, not, _&&_}
-use mathlib.Core.List.{List, [], _∷_}
+use Prim.Native.Nat.{ℕ, suc, _+_, _-_, _*_, _<_}
+use mathlib.Core.Path.{_≡_, refl, ap}
+use mathlib.Core.Bool.{true, false}
+use mathlib.Core.List.{List}
 use native.Mathlib.Nat.{sub-zero}
 use native.Mathlib.Omega.{arith}
-use lib.Dec.{eqb}
-use lib.ListN.{length, getD, drop}
-use borrow.Author.Tests.{eq-eqb, ne-eqb, eqb-true}
-use Rattle.number.specs.declared.Number.{Number}
-use Rattle.number.specs.Number.{number}
+use lib.ListN.{drop}
+use borrow.Author.Tests.{eq-eqb, ne-eqb}
 use Rattle.slots.specs.declared.outcome.Outcome.{Outcome}
-use Rattle.slots.specs.Slots.{slot, numberIn, bytesOf}
 use Rattle.slots.specs.Reports.{overLimits}
 use Rattle.slots.specs.Push.{pushOf}
-use Rattle.slots.specs.Reach.{lacking, numberAt}
-use Rattle.slots.specs.ReachLaws.{has, none-at, number-at}
-use Rattle.slots.specs.View.{viewOf}
-use Rattle.slots.specs.ViewLaws.{view-empty, view-top}
 use Rattle.literals.specs.Operate.{operateOf}
-use Rattle.recording.specs.Recording.{literalIn, reportIn, depthIn, topIn, first, records, same, zeros, notARecording}
-use Rattle.recording.specs.RecordingLaws.{same-by, next-record}
+use Rattle.recording.specs.Recording.{literalIn, reportIn, depthIn, topIn, first, records, notARecording}
+use Rattle.recording.specs.RecordingLaws.{next-record}
 use Rattle.replaying.specs.declared.answer.Replayed.{Replayed}
 use Rattle.replaying.specs.declared.answer.Field.the-variants.{Report, Depth, Top}
 use Rattle.replaying.specs.declared.answer.Verdict.the-variants.{Agree}
-use Rattle.replaying.specs.Replay.{stepOf, topOf, topDiffers, differs, goOn, refused, replayOf}
+use Rattle.replaying.specs.Replay.{stepOf, topDiffers, differs, goOn, refused, replayOf}
 
 -- the step of a record
 module _ (s : List ℕ) (d : ℕ) (x : List ℕ) where

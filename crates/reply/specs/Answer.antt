@@ -1,16 +1,10 @@
 -- What a person sees of a line: on standard output the step's report, the depth and the top's five bytes in hex (`-` at depth 0), or `? line N` where
 -- it can't be read; on standard error what is wrong with it then.
-use Prim.Native.Nat.{ℕ, _+_, _<_, _≤_}
-use mathlib.Core.Path.{_≡_}
-use mathlib.Core.Bool.{Bool, true, false, cond, _&&_}
+use Prim.Native.Nat.{ℕ, _+_}
+use mathlib.Core.Bool.{Bool, true, false}
 use mathlib.Core.List.{List, [], _∷_, _++_}
-use lib.Dec.{eqb, leb, ltb}
-use native.Mathlib.Numerals.{add-one}
-use lib.ListN.{length, take, drop, getD, drop-of-length-le}
-use lib.Seq.{drop-cons}
-use Rattle.text.specs.Put.{Text, putOf, putsOf}
 use Rattle.text.specs.Ascii.{ascii}
-use Rattle.text.specs.Digits.{decimalOf, eachOf}
+use Rattle.text.specs.Digits.{decimalOf}
 use Rattle.slots.specs.declared.outcome.Outcome.{Outcome}
 use Rattle.slots.specs.View.{viewOf}
 use Rattle.sheet.specs.declared.meaning.Line.{Line}

@@ -1,6 +1,6 @@
 -- One line of a sheet, from its number, the stack and the depth to what it writes and what it leaves.
 use Prim.Native.Nat.{ℕ}
-use mathlib.Core.Path.{_≡_, refl}
+use mathlib.Core.Path.{_≡_}
 use mathlib.Core.Bool.{Bool, true, false}
 use mathlib.Core.List.{List, []}
 use Rattle.text.specs.Put.{Text, putsOf}

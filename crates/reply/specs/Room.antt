@@ -1,16 +1,13 @@
 -- Buffers of 64 and 256 bytes have room for all that a line writes: what stands in them is the answer and the complaint, whole.
-use Prim.Native.Nat.{ℕ, _-_, _*_, _≤_}
+use Prim.Native.Nat.{ℕ, _-_, _≤_}
 use mathlib.Core.Path.{_≡_}
-use mathlib.Core.Bool.{Bool, true, false, cond, _||_}
+use mathlib.Core.Bool.{Bool, true, false}
 use mathlib.Core.List.{List, [], _∷_, _++_}
 use native.Mathlib.Omega.{arith}
-use lib.Dec.{eqb}
-use lib.ListN.{length, take, drop, length-append, length-take}
+use lib.ListN.{length, length-append}
 use Rattle.text.specs.Ascii.{ascii}
 use Rattle.text.specs.Put.{before, puts-whole}
-use Rattle.text.specs.Digits.{decimalOf, eachOf, digits-length, each-length}
-use Rattle.slots.specs.Slots.{slot}
-use Rattle.slots.specs.Reports.{overLimits}
+use Rattle.text.specs.Digits.{decimalOf, digits-length}
 use Rattle.slots.specs.View.{viewOf}
 use Rattle.slots.specs.ViewLaws.{view-length}
 use Rattle.sheet.specs.Blanks.{toldOf, trimmed}
@@ -18,7 +15,6 @@ use Rattle.sheet.specs.Line.{lineOf}
 use Rattle.sheet.specs.declared.meaning.Line.{Line}
 use Rattle.sheet.specs.declared.meaning.Line.the-variants.{Nothing, Push, Literal, Unreadable}
 use Rattle.sheet.specs.declared.meaning.Fault.{Fault}
-use Rattle.sheet.specs.declared.meaning.Fault.the-variants.{LongLine, BareNumber, BadPush, BadLiteral, NoStep}
 use Rattle.wording.specs.Wording.{faultOf, placeOf}
 use Rattle.wording.specs.Room.{step-room, fault-length, place-length}
 use Rattle.reply.specs.Answer.{answerOf, writtenOf, complaint, complaintOf}

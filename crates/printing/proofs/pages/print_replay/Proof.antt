@@ -1,7 +1,5 @@
 -- `print_replay` meets its contract: the replay, and the line for its verdict.
-use Prim.Native.Nat.{ℕ}
 use mathlib.Core.Path.{ap}
-use mathlib.Core.List.{List}
 use Rattle.text.specs.Put.{Text}
 use Rattle.printing.proofs.pages.print_replay.Statement.{statement}
 use Rattle.printing.proofs.pages.print_replay.Tie as tie

@@ -1,7 +1,5 @@
 -- `print_show` meets its contract: the replay, the records that it speaks of, and the line for its verdict.
-use Prim.Native.Nat.{ℕ}
 use mathlib.Core.Path.{ap, _∙_}
-use mathlib.Core.List.{List}
 use Rattle.text.specs.Put.{Text, puts-then}
 use Rattle.replaying.specs.Bounds.{spoken-within}
 use Rattle.printing.specs.Page.{doneLines, pageOf}

@@ -1,5 +1,4 @@
 -- `is_stray` meets its contract: the eight bytes make a number over 255 exactly where one above the lowest is not zero.
-use borrow.Author.Needs.{needs}
 use Prim.Native.Nat.{_+_, _*_}
 use native.Mathlib.Omega.{arith}
 use Rattle.recording.specs.RecordingLaws.{stray-by}
