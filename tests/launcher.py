@@ -53,11 +53,11 @@ def calc(sheet):
     return shell('"$T" calc', sheet)
 
 
-def typed(*parts):
-    """The status of calc at a terminal, and all that was seen there. Each part is typed when nothing more is written."""
+def typed(*parts, program="calc"):
+    """The status of a program at a terminal, and all that was seen there. Each part is typed when nothing more is written."""
     child, terminal = pty.fork()
     if child == 0:
-        os.execv(LAUNCHER, [LAUNCHER, "calc"])
+        os.execv(LAUNCHER, [LAUNCHER, program])
     seen = b""
     for part in (None, *parts, None):
         if part is not None:
@@ -91,6 +91,76 @@ class Sheets(unittest.TestCase):
         answers = b"0 1 00 00 03 00 00\n0 1 00 FF FD FF 00\n"
         for sheet in (b"push 3\r\nnegate\r\n", b"push 3\rnegate", b"\xEF\xBB\xBFpush 3\nnegate", b"push 3" + b" " * 300 + b"\n\n\t\nnegate # " + b"x" * 70_000):
             self.assertEqual(calc(sheet), (0, answers, b""), sheet[:20])
+
+
+class Recordings(unittest.TestCase):
+    def record(self, sheet):
+        return shell('"$T" record', sheet)
+
+    def test_a_sheet_recorded_and_replayed(self):
+        status, recording, err = self.record(b"push 10\npush 4\ndivide   # 2.5\ndivide\n")
+        self.assertEqual((status, err, len(recording)), (0, b"", 4 * 16))
+        self.assertEqual(recording[32:48], bytes((5, 0, 1, 0, 0x82, 0x20, 0, 0, 0)) + bytes(7))
+        self.assertEqual(shell('"$T" replay', recording), (0, b"agree 4\n", b""))
+        lines = (b"0 push 0 1 00 00 0A 00 00\n1 push 0 2 00 00 04 00 00\n2 divide 0 1 82 20 00 00 00\n", b"3 divide 2 1 82 20 00 00 00\n")
+        self.assertEqual(shell('"$T" show', recording), (0, lines[0] + lines[1] + b"agree 4\n", b""))
+        moved = recording[:40] + b"\1" + recording[41:]
+        self.assertEqual(shell('"$T" replay', moved), (1, b"differ 2 top\n", b""))
+        shown = lines[0].replace(b"20 00 00 00\n", b"20 00 00 01\n") + b"  this machine: 0 1 82 20 00 00 00\ndiffer 2 top\n"
+        self.assertEqual(shell('"$T" show', moved), (1, shown, b""))
+
+    def test_what_is_no_recording(self):
+        one = self.record(b"push 1\n")[1]
+        for recording in (one[:15], one + b"\0", one[:15] + b"\1", bytes(64_001), bytes(200_000), b"push 1\n"):
+            for program in ("replay", "show"):
+                self.assertEqual(shell(f'"$T" {program}', recording), (2, b"refused 8\n", b""))
+
+    def test_an_empty_one(self):
+        self.assertEqual(self.record(b"# nothing yet\n\n"), (0, b"", b""))
+        self.assertEqual(shell('"$T" replay', b""), (0, b"agree 0\n", b""))
+
+    def test_lines_that_are_not_recorded(self):
+        for sheet, said in ((SLIP, b"record: line 2: 00 00 O4 00 00: a step is five bytes in hex"), (b"push 1\n\nliteral 0 # none\n", b"record: line 3: literal 0: "),
+                            (b"push 1\ndelete\n" * 2_000 + b"# that was all\nadd\n", b"record: line 4002: add: a recording holds 4000 records")):
+            status, out, err = self.record(sheet)
+            self.assertEqual((status, out, err.count(b"\n")), (1, b"", 1), err)
+            self.assertTrue(err.startswith(said) and err.endswith(b"; no recording was written\n"), err)
+
+    def test_as_many_as_it_holds(self):
+        status, recording, err = self.record(b"push 1\ndelete\n" * 2_000 + b"# that was all\n")
+        self.assertEqual((status, len(recording), err), (0, 64_000, b""))
+        self.assertEqual(shell('"$T" replay', recording), (0, b"agree 4000\n", b""))
+        status, out, err = shell('"$T" show', recording)
+        self.assertEqual((status, out.count(b"\n"), out[-11:], err), (0, 4_001, b"agree 4000\n", b""))
+
+    def test_in_parts(self):
+        recording = (ROOT / "examples/count.rec").read_bytes()
+        parts = "; ".join(f"tail -c +{i + 1} \"$ROOT/examples/count.rec\" | head -c 7; sleep 0.01" for i in range(0, len(recording), 7))
+        self.assertEqual(shell(f'{{ {parts}; }} | "$T" replay'), (0, b"agree 18\n", b""))
+
+    def test_what_can_not_be_read_or_written(self):
+        for command in ('"$T" replay < /', '"$T" show < /', '"$T" record < /', '"$T" replay <&-', '"$T" record <&-'):
+            status, out, err = shell(command)
+            self.assertEqual((status, out, err.count(b"\n")), (1, b"", 1), command)
+            self.assertIn(b": standard input cannot be read; ", err)
+        for command in ('"$T" replay "$ROOT/examples/count.rec" > /dev/full', '"$T" show "$ROOT/examples/count.rec" >&-', '"$T" record one.txt > /dev/full'):
+            status, out, err = shell(command)
+            self.assertEqual((status, out, err.count(b"\n")), (1, b"", 1), command)
+            self.assertIn(b": standard output cannot be written", err)
+
+    def test_examples(self):
+        self.assertEqual(shell('"$T" record "$ROOT/examples/count.txt"'), (0, (ROOT / "examples/count.rec").read_bytes(), b""))
+        for launcher in ('"$T"', '"$P/bin/trenailer"'):
+            self.assertEqual(shell(launcher + ' replay "$ROOT/examples/count.rec"'), (0, b"agree 18\n", b""))
+            self.assertEqual(shell(launcher + ' replay "$ROOT/examples/moved.rec"'), (1, b"differ 15 top\n", b""))
+            status, out, err = shell(launcher + ' show "$ROOT/examples/moved.rec"')
+            self.assertEqual((status, out.splitlines()[-3:]), (1, [b"15 subtract 0 2 00 00 76 00 00", b"  this machine: 0 2 00 00 75 00 00", b"differ 15 top"]))
+
+    def test_at_a_terminal(self):
+        for program, said in (("replay", b"which nobody types"), ("show", b"which nobody types"), ("record", b"a recording is no text for a terminal")):
+            status, seen = typed(program=program)
+            self.assertEqual(status, 2, seen)
+            self.assertIn(said, seen)
 
 
 class Files(unittest.TestCase):
@@ -134,7 +204,8 @@ class Files(unittest.TestCase):
         self.assertIn(b"\n  calc ", out)
         for command in ('"$T" --help', '"$T" -h', '"$T" install --help'):
             self.assertEqual(shell(command), (0, out, b""), command)
-        for program, words in (("calc", (b"push N", b"multiply", b"re-stack")), ("vectors", (b"LENGTH:HEX*",))):
+        for program, words in (("calc", (b"push N", b"multiply", b"re-stack")), ("vectors", (b"LENGTH:HEX*",)), ("replay", (b"differ 3 depth",)),
+                               ("record", (b"recording",)), ("show", (b"this machine",))):
             status, more, err = shell(f'"$T" {program} --help')
             self.assertEqual((status, err), (0, b""))
             for word in words:
