@@ -57,7 +57,7 @@ abbrev pub before : Text → List ℕ
 before t = take (t .1) (t .0)
 
 -- where there is room, what is put is added to it
-puts-after : (out : List ℕ) (at : ℕ) (xs : List ℕ) → at + length xs ≤ length out → before (putsOf (out, at) xs) ≡ take at out ++ xs
+pub puts-after : (out : List ℕ) (at : ℕ) (xs : List ℕ) → at + length xs ≤ length out → before (putsOf (out, at) xs) ≡ take at out ++ xs
 unfolding putsOf
 puts-after out at [] h = sym (append-nil (take at out))
 puts-after out at (x ∷ xs) h =
