@@ -48,6 +48,7 @@ fn end_line(
     }
 }
 
+// After a line that can't be taken, what was read with it is passed over.
 fn take_byte(
     stack: &mut [u8],
     line: &mut [u8],
@@ -55,6 +56,9 @@ fn take_byte(
     at: Place,
     byte: u8,
 ) -> Place {
+    if !at.going {
+        return at;
+    }
     let taken = lines::take(line, at.held, at.returned, byte);
     if taken.ended {
         return end_line(stack, line, recording, at, taken.returned);
@@ -81,9 +85,6 @@ fn take_bytes(
     let mut i = 0;
     while i < bytes.len() {
         now_at = take_byte(stack, line, recording, now_at, bytes[i]);
-        if !now_at.going {
-            return now_at;
-        }
         i += 1;
     }
     now_at
@@ -127,8 +128,8 @@ fn turns_left(turns: u64, at: Place) -> u64
     0
 }
 
-// The end of the input. A last line needs no line feed.
-fn finish(stack: &mut [u8], line: &[u8], recording: &mut [u8], at: Place) -> Place {
+// A last line needs no line feed.
+fn last_line(stack: &mut [u8], line: &[u8], recording: &mut [u8], at: Place) -> Place {
     if 0 < at.held {
         if at.going {
             return end_line(stack, line, recording, at, false);
@@ -137,14 +138,17 @@ fn finish(stack: &mut [u8], line: &[u8], recording: &mut [u8], at: Place) -> Pla
     at
 }
 
-fn write(recording: &[u8]) {
-    if io::write_all(STDOUT_FILENO, recording) {
-        return;
+// The end of the input: every line was taken, or nothing is written.
+fn finish(recording: &[u8], at: Place) {
+    if at.going {
+        if io::write_all(STDOUT_FILENO, text::first(recording, at.end)) {
+            return;
+        }
+        io::write_all(
+            STDERR_FILENO,
+            b"record: standard output cannot be written; the recording is not whole\n",
+        );
     }
-    io::write_all(
-        STDERR_FILENO,
-        b"record: standard output cannot be written; the recording is not whole\n",
-    );
 }
 
 pub fn follow(stack: &mut [u8], line: &mut [u8], recording: &mut [u8]) {
@@ -162,8 +166,6 @@ pub fn follow(stack: &mut [u8], line: &mut [u8], recording: &mut [u8]) {
         at = read_some(stack, line, recording, at);
         turns = turns_left(turns, at);
     }
-    let last = finish(stack, line, recording, at);
-    if last.going {
-        write(text::first(recording, last.end));
-    }
+    let last = last_line(stack, line, recording, at);
+    finish(recording, last);
 }
