@@ -1,6 +1,6 @@
 -- A5, what `record` writes: for lines of a sheet that are all taken, it is the recording of their steps, and its replay agrees with all of it.
-use Prim.Native.Nat.{ℕ, _*_, _≤_}
-use mathlib.Core.Path.{_≡_, refl, sym, _∙_, ap}
+use Prim.Native.Nat.{ℕ, _≤_}
+use mathlib.Core.Path.{_≡_, refl, ap}
 use mathlib.Core.Bool.{true}
 use mathlib.Core.List.{List}
 use native.Mathlib.Omega.{arith}
@@ -11,7 +11,6 @@ use Rattle.sheet.specs.declared.meaning.Line.{Line}
 use Rattle.sheet.specs.declared.meaning.Line.the-variants.{Nothing, Push, Literal, Unreadable}
 use Rattle.sheet.specs.Blanks.{toldOf}
 use Rattle.sheet.specs.Line.{lineOf}
-use Rattle.replaying.specs.declared.answer.Replayed.{Replayed}
 use Rattle.replaying.specs.declared.answer.Verdict.the-variants.{Agree}
 use Rattle.replaying.specs.Replay.{replayOf}
 use Rattle.replaying.specs.Made.{Step, recordingOf}

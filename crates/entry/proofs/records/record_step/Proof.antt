@@ -1,6 +1,5 @@
 -- `record_step` meets its contract: its arms are the definition's.
 use borrow.Author.Needs.{needs}
-use mathlib.Core.Path.{refl}
 use Rattle.slots.specs.Slots.{bytesOf}
 use Rattle.entry.specs.Entry.{saidKept, push-kept, literal-kept}
 use Rattle.entry.proofs.records.record_step.Statement.{statement}
