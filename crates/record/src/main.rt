@@ -1,4 +1,4 @@
-// Records a count: follows a sheet of steps from standard input, one to a line, and writes a recording of it to standard output.
+// Follows a sheet of steps from standard input, one to a line, and writes a recording of them to standard output.
 //
 // A step is one of these. Blank lines are passed over, and what follows # is a comment.
 //
