@@ -74,28 +74,15 @@ fn both(a: bool, b: bool) -> bool {
 }
 
 fn take_byte(stack: &mut [u8], line: &mut [u8], at: Place, terminal: bool, byte: u8) -> Place {
-    if byte == b'\r' {
-        return end_line(stack, line, at, terminal, true);
-    }
-    if byte == b'\n' {
-        if at.returned {
-            return Place {
-                depth: at.depth,
-                held: at.held,
-                number: at.number,
-                returned: false,
-                going: at.going,
-                open: at.open,
-                owed: at.owed,
-            };
-        }
-        return end_line(stack, line, at, terminal, false);
+    let taken = lines::take(line, at.held, at.returned, byte);
+    if taken.ended {
+        return end_line(stack, line, at, terminal, taken.returned);
     }
     Place {
         depth: at.depth,
-        held: text::put(line, at.held, byte),
+        held: taken.held,
         number: at.number,
-        returned: false,
+        returned: taken.returned,
         going: at.going,
         open: at.open,
         owed: at.owed,

@@ -21,4 +21,5 @@ pub mod ReplayRefusals
 pub mod ReplayReads
 pub mod RecordedStep
 pub mod Recorded
+pub mod RecordedLines
 pub mod ReplaySums

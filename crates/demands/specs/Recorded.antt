@@ -46,7 +46,7 @@ follow (also {x} {xs} h g) s d w =
     ahead (recordOf x o) o (record-length x o h) (agree s d w x h) (same-step s d x h) (follow g (o .1) (o .0 .depth) (done-within s d w x))
 
 -- the whole recording: sixteen bytes a step, and none of them stray
-recording-length : {xs : List Step} → All xs → (s : List ℕ) (d : ℕ) → length (recordingOf xs s d) ≡ 16 * length xs
+pub recording-length : {xs : List Step} → All xs → (s : List ℕ) (d : ℕ) → length (recordingOf xs s d) ≡ 16 * length xs
 unfolding recordingOf
 recording-length empty s d = refl
 recording-length (also {x} {xs} h g) s d =

@@ -1,7 +1,7 @@
 -- Text put into a buffer that the caller lends, from a place on. What finds no room is left out.
 use Prim.Native.Nat.{ℕ, _+_, _<_, _≤_}
 use mathlib.Core.Path.{_≡_, refl, sym, _∙_, ap}
-use mathlib.Core.Bool.{cond}
+use mathlib.Core.Bool.{Bool, true, false, cond}
 use mathlib.Core.List.{List, [], _∷_, _++_, append-nil, append-assoc}
 use native.Mathlib.Omega.{arith}
 use native.Mathlib.Numerals.{add-one}
@@ -57,7 +57,7 @@ abbrev pub before : Text → List ℕ
 before t = take (t .1) (t .0)
 
 -- where there is room, what is put is added to it
-puts-after : (out : List ℕ) (at : ℕ) (xs : List ℕ) → at + length xs ≤ length out → before (putsOf (out, at) xs) ≡ take at out ++ xs
+pub puts-after : (out : List ℕ) (at : ℕ) (xs : List ℕ) → at + length xs ≤ length out → before (putsOf (out, at) xs) ≡ take at out ++ xs
 unfolding putsOf
 puts-after out at [] h = sym (append-nil (take at out))
 puts-after out at (x ∷ xs) h =
@@ -65,6 +65,20 @@ puts-after out at (x ∷ xs) h =
     ∙ puts-after (set out at x) (at + 1) xs (omega (arith, length-set out at x))
     ∙ ap (λ (ys : List ℕ). ys ++ xs) (ap (λ (n : ℕ). take n (set out at x)) (add-one at) ∙ take-suc-set out at x (omega arith))
     ∙ append-assoc (take at out) (x ∷ []) xs
+
+-- and in any case the buffer keeps its length
+put-length : (t : Text) (b : ℕ) → length (putOf t b .0) ≡ length (t .0)
+unfolding putOf
+put-length t b = go (ltb (t .1) (length (t .0)))
+  where
+    go : (h : Bool) → length (cond h (set (t .0) (t .1) b, t .1 + 1) t .0) ≡ length (t .0)
+    go true = length-set (t .0) (t .1) b
+    go false = refl
+
+pub puts-length : (t : Text) (xs : List ℕ) → length (putsOf t xs .0) ≡ length (t .0)
+unfolding putsOf
+puts-length t [] = refl
+puts-length t (x ∷ xs) = puts-length (putOf t x) xs ∙ put-length t x
 
 -- a buffer with room for a text has all of it
 pub puts-whole : (out xs : List ℕ) → length xs ≤ length out → before (putsOf (out, 0) xs) ≡ xs

@@ -1,0 +1,4 @@
+pub mod Complaint
+pub mod Entry
+pub mod Room
+pub mod Taking

@@ -1,0 +1,12 @@
+// Why a line can't be taken.
+use sheet::Fault;
+
+pub(crate) enum Why {
+    // It can.
+    None,
+    Unread(Fault),
+    // Literal 0: a record has 0 for a push.
+    Zero,
+    // A recording has at most 4,000 records.
+    Full,
+}
