@@ -11,7 +11,7 @@ ghost use Rattle.slots.specs.SlotLaws.{fourIn, putFour};
 ghost use Rattle.slots.specs.Reach.{numberAt, putAt};
 
 // b2 to b5 the other way round, as the machine holds a word: the compiler reads them at once.
-fn four_in(stack: &[u8], slot: usize) -> u32
+pub fn four_in(stack: &[u8], slot: usize) -> u32
     requires { ⌜ 5 * slot + 5 ≤ length (now stack) ⌝ }
     ensures { λ r. ⌜ r ≡ fourIn (now (stack .entry)) slot ⌝ }
 {
@@ -98,7 +98,7 @@ fn put_four(stack: &mut [u8], slot: usize, four: u32)
     stack[at + 4] = (four / 16777216) as u8;
 }
 
-fn put_in(stack: &mut [u8], slot: usize, n: Number)
+pub fn put_in(stack: &mut [u8], slot: usize, n: Number)
     requires { ⌜ 5 * slot + 5 ≤ length (now stack) ⌝ }
     ensures { λ _. ⌜ now (stack .exit) ≡ putIn (now (stack .entry)) slot n ⌝ }
 {

@@ -1,0 +1,14 @@
+-- `eight_stray` meets its contract: the records are tested in two halves.
+use native.Mathlib.Omega.{arith}
+use Rattle.recording.specs.RecordingLaws.{more-stray}
+use Rattle.recording.proofs.whole.eight_stray.Statement.{statement}
+use Rattle.recording.proofs.whole.eight_stray.Tie as tie
+
+pub eight-stray-spec : {M : Type 1} → statement M
+eight-stray-spec =
+    tie.close
+    (tie.spec
+    (λ c κs. omega arith)
+    (λ c. omega arith)
+    (λ c κs. omega arith)
+    (λ c. let a = c .before .before .before .args in more-stray (a .recording .now) (a .at) 4 4 (c .before .four-stray .ensures) (c .four-stray2 .ensures)))

@@ -1,0 +1,14 @@
+-- `two_stray` meets its contract: the records are tested in two halves.
+use native.Mathlib.Omega.{arith}
+use Rattle.recording.specs.RecordingLaws.{more-stray}
+use Rattle.recording.proofs.whole.two_stray.Statement.{statement}
+use Rattle.recording.proofs.whole.two_stray.Tie as tie
+
+pub two-stray-spec : {M : Type 1} → statement M
+two-stray-spec =
+    tie.close
+    (tie.spec
+    (λ c κs. omega arith)
+    (λ c. omega arith)
+    (λ c κs. omega arith)
+    (λ c. let a = c .before .before .before .args in more-stray (a .recording .now) (a .at) 1 1 (c .before .is-stray .ensures) (c .is-stray2 .ensures)))
