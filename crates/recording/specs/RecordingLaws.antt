@@ -33,6 +33,10 @@ same-by false {xs} {ys} f g = go (same xs ys) refl
     go true e = g (same-true xs ys e)
     go false e = refl
 
+-- the records after record i
+pub next-record : (r : List ℕ) (i : ℕ) → later (drop (16 * i) r) ≡ drop (16 * (i + 1)) r
+next-record r i = let e : 16 * i + 16 ≡ 16 * (i + 1) = omega arith in rw (drop-drop 16 (16 * i) r, e) refl
+
 -- bytes 9 to 15 of a record that is whole
 module _ (r : List ℕ) (at : ℕ) (h : at + 16 ≤ length r) where
   abbrev here : List ℕ
@@ -141,6 +145,15 @@ module _ (x : List ℕ) where
 
   pub top-none : length x ≤ 4 → [] ≡ topIn x
   top-none h = rw (drop-of-length-le x h) refl
+
+pub whole-records : (r : List ℕ) → notARecording r ≡ false → length r % 16 ≡ 0
+unfolding notARecording
+whole-records r h = go (ltb 64000 (length r)) (eqb (length r % 16) 0) refl h
+  where
+    go : (a b : Bool) → eqb (length r % 16) 0 ≡ b → a || not b || stray (records r) r ≡ false → length r % 16 ≡ 0
+    go true b e k = absurd (true≢false k)
+    go false true e k = eqb-true _ _ e
+    go false false e k = absurd (true≢false k)
 
 pub not-too-long : (r : List ℕ) → notARecording r ≡ false → length r ≤ 64000
 unfolding notARecording
