@@ -36,32 +36,20 @@ fn is_stray(recording: &[u8], at: usize) -> bool
         )
 }
 
-// Both are read before either is looked at: the compiler then joins their bytes, and has one test for both.
-fn two_stray(recording: &[u8], at: usize) -> bool
-    requires { ⌜ at + 32 ≤ length (now recording) ⌝ }
-    ensures { λ r. ⌜ r ≡ stray 2 (drop at (now (recording .entry))) ⌝ }
-{
-    let a = is_stray(recording, at);
-    let b = is_stray(recording, at + 16);
-    a | b
-}
-
-fn four_stray(recording: &[u8], at: usize) -> bool
-    requires { ⌜ at + 64 ≤ length (now recording) ⌝ }
-    ensures { λ r. ⌜ r ≡ stray 4 (drop at (now (recording .entry))) ⌝ }
-{
-    let a = two_stray(recording, at);
-    let b = two_stray(recording, at + 32);
-    a | b
-}
-
+// All are read before any is looked at: the compiler then joins their bytes, and has one test for eight records.
 fn eight_stray(recording: &[u8], at: usize) -> bool
     requires { ⌜ at + 128 ≤ length (now recording) ⌝ }
     ensures { λ r. ⌜ r ≡ stray 8 (drop at (now (recording .entry))) ⌝ }
 {
-    let a = four_stray(recording, at);
-    let b = four_stray(recording, at + 64);
-    a | b
+    let a = is_stray(recording, at);
+    let b = is_stray(recording, at + 16);
+    let c = is_stray(recording, at + 32);
+    let d = is_stray(recording, at + 48);
+    let e = is_stray(recording, at + 64);
+    let f = is_stray(recording, at + 80);
+    let g = is_stray(recording, at + 96);
+    let h = is_stray(recording, at + 112);
+    a | b | c | d | e | f | g | h
 }
 
 pub fn not_a_recording(recording: &[u8]) -> bool
