@@ -31,7 +31,7 @@ module _ (s : List ℕ) (d : ℕ) (x : List ℕ) where
   unfolding stepOf
   step-literal h = simp (ne-eqb _ _ h)
 
--- whether a record differs at all from the report, the depth and the stack that its step gave, and its first field if so
+-- whether a record differs from the report, the depth and the stack that its step gave, and its first field that does
 unfoldable pub headDiffers : List ℕ → ℕ → ℕ → Bool
 headDiffers x report d = reportDiffers x report || depthDiffers x d
 

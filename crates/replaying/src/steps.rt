@@ -31,7 +31,7 @@ fn operate(stack: &mut [u8], depth: &mut usize, literal: u8) -> u8
     }
 }
 
-// As `moving::push`, but room is one comparison, and the depth stays where it is.
+// As `moving::push`, but room is one comparison. The bound of the new depth is for the product in `step`.
 fn push(stack: &mut [u8], depth: &mut usize, number: &[u8]) -> u8
     ensures { λ r. ⌜ (pushOf (now (stack .entry)) (now (depth .entry)) (now (number .entry)) ≡ (outcome r (now (depth .exit)), now (stack .exit)))
         × (r ≡ 0 → now (depth .exit) ≤ 3200) ⌝ }

@@ -128,7 +128,7 @@ pub fn put_word_at(stack: &mut [u8], depth: usize, above: u8, word: u32)
     put_four(stack, depth - nth, number::swapped(word));
 }
 
-// The top's b1, its b2 to b5 as they lie, and both put, for a caller that has asked `lacks_top`.
+// The same of the top alone, for a caller that has asked `lacks_top`: its b1, its b2 to b5 as they lie, and a number put there.
 pub fn top_b1(stack: &[u8], depth: usize) -> u8
     ensures { λ r. ⌜ r ≡ numberAt (now (stack .entry)) depth 0 .b1 ⌝ }
 {
