@@ -1,7 +1,7 @@
 -- Laws of a recording: when two lists are the same, where a record's bytes stand, and the test of a recording, a law a way out.
-use Prim.Native.Nat.{ℕ, suc, _+_, _-_, _*_, _%_, _≤_, _<_}
-use mathlib.Core.Path.{_≡_, refl, sym, _∙_, ap}
-use mathlib.Core.Bool.{Bool, true, false, true≢false, false≢true, not, _||_, and-eq-true-iff}
+use Prim.Native.Nat.{ℕ, zero, suc, _+_, _-_, _*_, _/_, _%_, _≤_, _<_}
+use mathlib.Core.Path.{_≡_, refl, sym, _∙_, ap, ap₂}
+use mathlib.Core.Bool.{Bool, true, false, true≢false, false≢true, not, _||_, and-eq-true-iff, or-false, or-assoc}
 use mathlib.Core.List.{List, [], _∷_}
 use native.Mathlib.Omega.{arith}
 use lib.Dec.{eqb, ltb}
@@ -38,18 +38,18 @@ pub next-record : (r : List ℕ) (i : ℕ) → later (drop (16 * i) r) ≡ drop 
 next-record r i = let e : 16 * i + 16 ≡ 16 * (i + 1) = omega arith in rw (drop-drop 16 (16 * i) r, e) refl
 
 -- bytes 9 to 15 of a record that is whole
-module _ (r : List ℕ) (i : ℕ) (h : 16 * i + 16 ≤ length r) where
+module _ (r : List ℕ) (at : ℕ) (h : at + 16 ≤ length r) where
   abbrev here : List ℕ
-  here = first (drop (16 * i) r)
+  here = first (drop at r)
 
   long : length here ≡ 16
   long = simp (length-take, length-drop) (omega arith)
 
-  byte-in : (k : ℕ) → k < 16 → getD here k 0 ≡ getD r (16 * i + k) 0
-  byte-in k g = getD-take 16 (drop (16 * i) r) k 0 g ∙ getD-drop (16 * i) r k 0
+  byte-in : (k : ℕ) → k < 16 → getD here k 0 ≡ getD r (at + k) 0
+  byte-in k g = getD-take 16 (drop at r) k 0 g ∙ getD-drop at r k 0
 
   abbrev b : ℕ → ℕ
-  b k = getD r (16 * i + k) 0
+  b k = getD r (at + k) 0
 
   rest-is : restIn here ≡ b 9 ∷ b 10 ∷ b 11 ∷ b 12 ∷ b 13 ∷ b 14 ∷ b 15 ∷ []
   rest-is =
@@ -73,8 +73,9 @@ module _ (r : List ℕ) (i : ℕ) (h : 16 * i + 16 ≤ length r) where
   -- with byte 8 below them they make a number, which is a byte exactly where they are zero
   pub stray-by : b 8 < 256 → (j : ℕ)
       → j ≡ b 8 + 256 * b 9 + 65536 * b 10 + 16777216 * b 11 + 4294967296 * b 12 + 1099511627776 * b 13 + 281474976710656 * b 14 + 72057594037927936 * b 15
-      → ltb 255 j ≡ not (same (restIn here) (zeros 7))
-  stray-by l j e = go (ltb 255 j) refl
+      → ltb 255 j ≡ stray 1 (drop at r)
+  unfolding stray
+  stray-by l j e = go (ltb 255 j) refl ∙ sym (or-false _)
     where
       go : (t : Bool) → ltb 255 j ≡ t → t ≡ not (same (restIn here) (zeros 7))
       go true g =
@@ -90,23 +91,38 @@ module _ (r : List ℕ) (i : ℕ) (h : 16 * i + 16 ≤ length r) where
           (omega arith, omega arith, omega arith, omega arith, omega arith, omega arith, omega arith) in
           ap not (same-by true (λ t. rest-is ∙ rw (z .0, z .1, z .2, z .3, z .4, z .5, z .6) refl) (λ t. refl))
 
--- the test of the records that are left
-module _ (r : List ℕ) (n i : ℕ) where
-  pub none-stray : n ≤ i → stray (n - i) (drop (16 * i) r) ≡ false
-  unfolding stray
-  none-stray h = let e : n - i ≡ 0 = omega arith in rw e refl
+-- the test of the records that are left from a place on
+abbrev pub left : List ℕ → ℕ → Bool
+left r at = stray ((length r - at) / 16) (drop at r)
 
-  module _ (k : i < n) where
-    one-more : n - i ≡ suc (n - (i + 1))
-    one-more = omega arith
+-- they are tested m at a time
+pub stray-split : (m n : ℕ) (r : List ℕ) → stray (m + n) r ≡ stray m r || stray n (drop (16 * m) r)
+unfolding stray
+stray-split zero n r = let e : 0 + n ≡ n = omega arith in rw e refl
+stray-split (suc m) n r =
+    let e : suc m + n ≡ suc (m + n) = omega arith in
+    let f : 16 + 16 * m ≡ 16 * suc m = omega arith in
+    rw (e, stray-split m n (later r), drop-drop (16 * m) 16 r, f, or-assoc) refl
 
-    pub found-stray : true ≡ not (same (restIn (first (drop (16 * i) r))) (zeros 7)) → stray (n - i) (drop (16 * i) r) ≡ true
-    unfolding stray
-    found-stray h = rw one-more (simp (sym h))
+module _ (r : List ℕ) (at m : ℕ) where
+  pub more-stray : (n : ℕ) {a b : Bool} → a ≡ stray m (drop at r) → b ≡ stray n (drop (at + 16 * m) r) → a || b ≡ stray (m + n) (drop at r)
+  more-stray n p q = ap₂ _||_ p (q ∙ ap (stray n) (sym (drop-drop (16 * m) at r))) ∙ sym (stray-split m n (drop at r))
 
-    pub next-stray : false ≡ not (same (restIn (first (drop (16 * i) r))) (zeros 7)) → stray (n - i) (drop (16 * i) r) ≡ stray (n - (i + 1)) (drop (16 * (i + 1)) r)
-    unfolding stray
-    next-stray h = rw one-more (simp (sym h) (ap (stray (n - (i + 1))) (next-record r i)))
+  module _ (k : at + 16 * m ≤ length r) where
+    split : left r at ≡ stray m (drop at r) || left r (at + 16 * m)
+    split =
+        let e : (length r - at) / 16 ≡ m + (length r - (at + 16 * m)) / 16 = omega arith in
+        ap (λ (n : ℕ). stray n (drop at r)) e ∙ sym (more-stray _ refl refl)
+
+    pub found-stray : true ≡ stray m (drop at r) → true ≡ left r at
+    found-stray h = sym (split ∙ simp (sym h))
+
+    pub next-stray : false ≡ stray m (drop at r) → left r at ≡ left r (at + 16 * m)
+    next-stray h = split ∙ simp (sym h)
+
+pub none-stray : (r : List ℕ) (at : ℕ) → length r ≤ at → false ≡ left r at
+unfolding stray
+none-stray r at h = let e : (length r - at) / 16 ≡ 0 = omega arith in rw e refl
 
 module _ (r : List ℕ) where
   pub too-long : 64000 < length r → true ≡ notARecording r
@@ -129,6 +145,15 @@ module _ (x : List ℕ) where
 
   pub top-none : length x ≤ 4 → [] ≡ topIn x
   top-none h = rw (drop-of-length-le x h) refl
+
+pub whole-records : (r : List ℕ) → notARecording r ≡ false → length r % 16 ≡ 0
+unfolding notARecording
+whole-records r h = go (ltb 64000 (length r)) (eqb (length r % 16) 0) refl h
+  where
+    go : (a b : Bool) → eqb (length r % 16) 0 ≡ b → a || not b || stray (records r) r ≡ false → length r % 16 ≡ 0
+    go true b e k = absurd (true≢false k)
+    go false true e k = eqb-true _ _ e
+    go false false e k = absurd (true≢false k)
 
 pub not-too-long : (r : List ℕ) → notARecording r ≡ false → length r ≤ 64000
 unfolding notARecording

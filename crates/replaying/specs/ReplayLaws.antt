@@ -1,22 +1,25 @@
 -- The replay, a law a turn: there is no record left, the next one differs, or it agrees.
-use Prim.Native.Nat.{ℕ, suc, _+_, _-_, _*_, _<_}
-use mathlib.Core.Path.{_≡_, refl, ap}
-use mathlib.Core.Bool.{true, false}
+use Prim.Native.Nat.{ℕ, suc, _+_, _-_, _*_, _/_, _≤_, _<_}
+use mathlib.Core.Path.{_≡_, refl, sym, _∙_, ap}
+use mathlib.Core.Bool.{Bool, true, false, true≢false, false≢true, cond, not, _||_, or-false}
 use mathlib.Core.List.{List}
-use native.Mathlib.Nat.{sub-zero}
+use native.Mathlib.Nat.{sub-zero, sub-self}
 use native.Mathlib.Omega.{arith}
-use lib.ListN.{drop}
-use borrow.Author.Tests.{eq-eqb, ne-eqb}
+use lib.Dec.{eqb}
+use lib.ListN.{length, drop}
+use lib.Seq.{drop-drop}
+use borrow.Author.Tests.{eq-eqb, ne-eqb, eqb-true, eqb-false}
 use Rattle.slots.specs.declared.outcome.Outcome.{Outcome}
 use Rattle.slots.specs.Reports.{overLimits}
 use Rattle.slots.specs.Push.{pushOf}
 use Rattle.literals.specs.Operate.{operateOf}
-use Rattle.recording.specs.Recording.{literalIn, reportIn, depthIn, topIn, first, records, notARecording}
-use Rattle.recording.specs.RecordingLaws.{next-record}
+use Rattle.recording.specs.Recording.{literalIn, reportIn, depthIn, topIn, first, later, same, notARecording}
 use Rattle.replaying.specs.declared.answer.Replayed.{Replayed}
+use Rattle.replaying.specs.declared.answer.Field.{Field}
 use Rattle.replaying.specs.declared.answer.Field.the-variants.{Report, Depth, Top}
 use Rattle.replaying.specs.declared.answer.Verdict.the-variants.{Agree}
-use Rattle.replaying.specs.Replay.{stepOf, topDiffers, differs, goOn, refused, replayOf}
+use Rattle.replaying.specs.Replay.{stepOf, topOf, reportDiffers, depthDiffers, topDiffers, differs, goOn, refused, replayOf}
+use Rattle.replaying.specs.TopLaws.{top-of-push, top-of-literal}
 
 -- the step of a record
 module _ (s : List ℕ) (d : ℕ) (x : List ℕ) where
@@ -28,36 +31,92 @@ module _ (s : List ℕ) (d : ℕ) (x : List ℕ) where
   unfolding stepOf
   step-literal h = simp (ne-eqb _ _ h)
 
+-- whether a record differs from the report, the depth and the stack that its step gave, and its first field that does
+unfoldable pub headDiffers : List ℕ → ℕ → ℕ → Bool
+headDiffers x report d = reportDiffers x report || depthDiffers x d
+
+unfoldable pub anyDiffers : List ℕ → ℕ → ℕ → List ℕ → Bool
+anyDiffers x report d s = headDiffers x report d || topDiffers x s d
+
+unfoldable pub firstField : List ℕ → ℕ → ℕ → Field
+firstField x report d = cond (reportDiffers x report) Report (cond (depthDiffers x d) Depth Top)
+
+picked-field : (a b c : Bool) (i : ℕ) (o : Outcome × List ℕ) (z : Replayed × List ℕ) → true ≡ a || b || c
+    → cond a (differs i Report o) (cond b (differs i Depth o) (cond c (differs i Top o) z)) ≡ differs i (cond a Report (cond b Depth Top)) o
+picked-field true b c i o z h = refl
+picked-field false true c i o z h = refl
+picked-field false false true i o z h = refl
+picked-field false false false i o z h = absurd (true≢false h)
+
+picked-none : (a b c : Bool) {A : Type 0} (w x y z : A) → false ≡ a || b || c → cond a w (cond b x (cond c y z)) ≡ z
+picked-none true b c w x y z h = absurd (false≢true h)
+picked-none false true c w x y z h = absurd (false≢true h)
+picked-none false false true w x y z h = absurd (false≢true h)
+picked-none false false false w x y z h = refl
+
+-- as a step finds it: of a push the head decides, of a literal the top too
+module _ (x : List ℕ) (report d : ℕ) (s : List ℕ) where
+  pub push-differs : literalIn x ≡ 0 → {b : Bool} → b ≡ headDiffers x report d → b ≡ anyDiffers x report d s
+  unfolding anyDiffers
+  push-differs l h = h ∙ sym (ap (λ (t : Bool). headDiffers x report d || t) (sym (top-of-push x s d l)) ∙ or-false _)
+
+  module _ {b : Bool} (h : not b ≡ headDiffers x report d) where
+    pub head-differs : b ≡ false → true ≡ anyDiffers x report d s
+    unfolding anyDiffers
+    head-differs e = ap (λ (t : Bool). t || topDiffers x s d) (ap not (sym e) ∙ h)
+
+    pub literal-differs : b ≡ true → (literalIn x ≡ 0 → ⊥) → {t : Bool} → t ≡ same (topOf s d) (topIn x) → not t ≡ anyDiffers x report d s
+    unfolding anyDiffers
+    literal-differs e l q = ap not q ∙ top-of-literal x s d l ∙ ap (λ (t : Bool). t || topDiffers x s d) (ap not (sym e) ∙ h)
+
+-- the head of a push that was done, as one number
+pub push-head : (x : List ℕ) (d h : ℕ) → literalIn x ≡ 0 → reportIn x < 256 → h ≡ literalIn x + 256 * reportIn x + 65536 * depthIn x
+    → not (eqb h (65536 * d)) ≡ headDiffers x 0 d
+unfolding headDiffers
+push-head x d h l b e = go (eqb h (65536 * d)) refl
+  where
+    other : (h ≡ 65536 * d → ⊥) → (t : Bool) → eqb 0 (reportIn x) ≡ t → true ≡ not t || depthDiffers x d
+    other n true i = let z = eqb-true 0 (reportIn x) i in sym (simp (ne-eqb d (depthIn x) (λ y. n (omega arith))))
+    other n false i = refl
+
+    go : (t : Bool) → eqb h (65536 * d) ≡ t → not t ≡ reportDiffers x 0 || depthDiffers x d
+    go true i =
+        let z = eqb-true h (65536 * d) i in
+        let p : h / 65536 ≡ depthIn x = omega arith in
+        let q : h / 65536 ≡ d = omega arith in
+        sym (simp (eq-eqb 0 (reportIn x) (omega arith), eq-eqb d (depthIn x) (omega arith)))
+    go false i = other (eqb-false h (65536 * d) i) (eqb 0 (reportIn x)) refl
+
+-- the rest of a replay, by how many bytes are left
+abbrev pub goOnWith : List ℕ → ℕ → List ℕ → ℕ → Replayed × List ℕ
+goOnWith r left s d = goOn (left / 16) (drop (length r - left) r) ((length r - left) / 16) s d
+
 -- a turn
-module _ (r : List ℕ) (n i : ℕ) (s : List ℕ) (d : ℕ) where
-  abbrev here : List ℕ
-  here = first (drop (16 * i) r)
-
-  pub at-end : i ≡ n → goOn (n - i) (drop (16 * i) r) i s d ≡ (record { verdict = Agree i; report = 0; depth = d }, s)
+module _ (r : List ℕ) (left : ℕ) (s : List ℕ) (d : ℕ) where
+  pub at-end : left ≡ 0 → goOnWith r left s d ≡ (record { verdict = Agree (length r / 16); report = 0; depth = d }, s)
   unfolding goOn
-  at-end h = let e : n - i ≡ 0 = omega arith in rw e refl
+  at-end h = rw (h, sub-zero) refl
 
-  module _ (k : i < n) (o : Outcome) (t : List ℕ) (e : stepOf s d here ≡ (o, t)) where
-    one-more : n - i ≡ suc (n - (i + 1))
+  abbrev here : List ℕ
+  here = first (drop (length r - left) r)
+
+  module _ (k : 16 ≤ left) (l : left ≤ length r) (o : Outcome) (t : List ℕ) (e : stepOf s d here ≡ (o, t)) where
+    one-more : left / 16 ≡ suc ((left - 16) / 16)
     one-more = omega arith
 
-    pub report-differs : (o .report ≡ reportIn here → ⊥) → goOn (n - i) (drop (16 * i) r) i s d ≡ differs i Report (o, t)
-    unfolding goOn
-    report-differs h = rw one-more (simp (e, ne-eqb _ _ h))
+    pub turn-differs : true ≡ anyDiffers here (o .report) (o .depth) t → {f : Field} → f ≡ firstField here (o .report) (o .depth)
+        → goOnWith r left s d ≡ differs ((length r - left) / 16) f (o, t)
+    unfolding goOn anyDiffers headDiffers firstField
+    turn-differs h q = rw (one-more, q, e) (picked-field (reportDiffers here (o .report)) (depthDiffers here (o .depth)) (topDiffers here t (o .depth)) _ (o, t) _ h)
 
-    module _ (p : o .report ≡ reportIn here) where
-      pub depth-differs : (o .depth ≡ depthIn here → ⊥) → goOn (n - i) (drop (16 * i) r) i s d ≡ differs i Depth (o, t)
-      unfolding goOn
-      depth-differs h = rw one-more (simp (e, eq-eqb _ _ p, ne-eqb _ _ h))
-
-      module _ (q : o .depth ≡ depthIn here) where
-        pub top-differs : topDiffers here t (o .depth) ≡ true → goOn (n - i) (drop (16 * i) r) i s d ≡ differs i Top (o, t)
-        unfolding goOn
-        top-differs h = rw one-more (simp (e, eq-eqb _ _ p, eq-eqb _ _ q, h))
-
-        pub agrees : topDiffers here t (o .depth) ≡ false → goOn (n - i) (drop (16 * i) r) i s d ≡ goOn (n - (i + 1)) (drop (16 * (i + 1)) r) (i + 1) t (o .depth)
-        unfolding goOn
-        agrees h = rw one-more (simp (e, eq-eqb _ _ p, eq-eqb _ _ q, h) (ap (λ (x : List ℕ). goOn (n - (i + 1)) x (i + 1) t (o .depth)) (next-record r i)))
+    pub turn-agrees : false ≡ anyDiffers here (o .report) (o .depth) t → goOnWith r left s d ≡ goOnWith r (left - 16) t (o .depth)
+    unfolding goOn anyDiffers headDiffers
+    turn-agrees h =
+        let place : length r - left + 16 ≡ length r - (left - 16) = omega arith in
+        let next : (length r - left) / 16 + 1 ≡ (length r - (left - 16)) / 16 = omega arith in
+        let rest : goOn ((left - 16) / 16) (later (drop (length r - left) r)) ((length r - left) / 16 + 1) t (o .depth) ≡ goOnWith r (left - 16) t (o .depth) =
+        rw (drop-drop 16 (length r - left) r, place, next) refl in
+        rw (one-more, e) (picked-none (reportDiffers here (o .report)) (depthDiffers here (o .depth)) (topDiffers here t (o .depth)) _ _ _ _ h ∙ rest)
 
 module _ (s r : List ℕ) where
   pub replay-over : {x : Replayed} → overLimits s 0 ≡ true → x ≡ refused 1 → replayOf s r ≡ (x, s)
@@ -69,6 +128,6 @@ module _ (s r : List ℕ) where
     unfolding replayOf
     replay-refused h e = rw e (simp (w, h))
 
-    pub replay-starts : notARecording r ≡ false → goOn (records r - 0) r 0 s 0 ≡ replayOf s r
+    pub replay-starts : notARecording r ≡ false → goOnWith r (length r) s 0 ≡ replayOf s r
     unfolding replayOf
-    replay-starts h = rw sub-zero (simp (w, h))
+    replay-starts h = rw sub-self (simp (w, h))

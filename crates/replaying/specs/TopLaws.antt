@@ -1,5 +1,5 @@
--- Whether a record's top differs, by the numbers that the bytes make: five bytes are the same exactly where b1 and the word are.
-use Prim.Native.Nat.{ℕ, _+_, _-_, _<_}
+-- Whether a record's top is the stack's, by the numbers that the bytes make: five bytes are the same exactly where b1 and the word are.
+use Prim.Native.Nat.{ℕ, _+_, _-_, _^_, _/_, _%_, _<_}
 use mathlib.Core.Path.{_≡_, refl, sym, _∙_, ap, ap₂}
 use mathlib.Core.Bool.{Bool, true, false, false≢true, not, _&&_, and-eq-true-iff}
 use mathlib.Core.List.{List}
@@ -7,10 +7,10 @@ use native.Mathlib.Omega.{arith}
 use lib.Dec.{eqb, ltb}
 use lib.ListN.{length, getD, drop, length-take, length-drop, List·getD-eq-default}
 use lib.Seq.{getD-take, getD-drop}
-use borrow.Author.Tests.{ltb-true, ltb-false, eq-eqb, ne-eqb, eqb-true}
+use borrow.Author.Tests.{ltb-true, ltb-false, eq-eqb, ne-eqb, eqb-true, eqb-false}
 use Rattle.number.specs.declared.Number.{Number}
-use Rattle.number.specs.Number.{b2, b3, b4, b5}
-use Rattle.number.specs.NumberLaws.{word-of}
+use Rattle.number.specs.Number.{number, b2, b3, b4, b5, swappedOf}
+use Rattle.number.specs.NumberLaws.{word-of, swapped-word}
 use Rattle.slots.specs.Slots.{slot, bytesOf}
 use Rattle.slots.specs.SlotLaws.{bytes-of-slot}
 use Rattle.slots.specs.PushLaws.{alone-bytes}
@@ -67,6 +67,18 @@ same-number n m =
     let words : n .word ≡ m .word = sym (word-of n) ∙ rw (is .0, is .1, is .2, is .3) (word-of m) in
     and-eq-true-iff (eqb (n .b1) (m .b1)) _ .1 (eq-eqb _ _ (at 0), eq-eqb _ _ words))
 
+-- and the words are, where they are the same swapped
+swapped-twice : (w : ℕ) → w < 2 ^ 32 → swappedOf (swappedOf w) ≡ w
+swapped-twice w h =
+    swapped-word (w / 2 ^ 24) (w / 2 ^ 16 % 256) (w / 2 ^ 8 % 256) (w % 256) (omega arith) (omega arith) (omega arith) (omega arith) ∙ word-of (number 0 w)
+
+swapped-same : (u v : ℕ) → u < 2 ^ 32 → v < 2 ^ 32 → eqb u v ≡ eqb (swappedOf u) (swappedOf v)
+swapped-same u v p q = go (eqb u v) refl
+  where
+    go : (t : Bool) → eqb u v ≡ t → t ≡ eqb (swappedOf u) (swappedOf v)
+    go true e = sym (eq-eqb _ _ (ap swappedOf (eqb-true u v e)))
+    go false e = sym (ne-eqb _ _ (λ z. eqb-false u v e (sym (swapped-twice u p) ∙ ap swappedOf z ∙ swapped-twice v q)))
+
 part-bytes : (x : List ℕ) → ((k : ℕ) → getD x k 0 < 256) → (k : ℕ) → getD (topIn x) k 0 < 256
 part-bytes x b k = go (ltb k 5) refl
   where
@@ -80,14 +92,13 @@ module _ (x s : List ℕ) (d : ℕ) where
   unfolding topDiffers
   top-of-push h = simp (eq-eqb _ _ h)
 
-  module _ (l : literalIn x ≡ 0 → ⊥) {five : List ℕ} (f : five ≡ topIn x) where
-    pub top-not-five : (length five ≡ 5 → ⊥) → true ≡ topDiffers x s d
-    unfolding topDiffers
-    top-not-five h =
-        simp (
-          ne-eqb _ _ l,
-          sym (same-by false {xs = topOf s d} {ys = topIn x} (λ z. absurd (false≢true z)) (λ z. absurd (h (ap length f ∙ sym (ap length z) ∙ top-long s d)))),
-        )
+  pub top-of-literal : (literalIn x ≡ 0 → ⊥) → not (same (topOf s d) (topIn x)) ≡ topDiffers x s d
+  unfolding topDiffers
+  top-of-literal h = sym (simp (ne-eqb _ _ h))
+
+  module _ {five : List ℕ} (f : five ≡ topIn x) where
+    pub top-not-five : (length five ≡ 5 → ⊥) → false ≡ same (topOf s d) (topIn x)
+    top-not-five h = same-by false (λ z. absurd (false≢true z)) (λ z. absurd (h (ap length f ∙ sym (ap length z) ∙ top-long s d)))
 
     module _ (h : length five ≡ 5) (b : (k : ℕ) → getD s k 0 < 256) (c : (k : ℕ) → getD x k 0 < 256) where
       abbrev n : Number
@@ -96,14 +107,11 @@ module _ (x s : List ℕ) (d : ℕ) where
       abbrev m : Number
       m = numberAt five 1 0
 
-      by-number : topDiffers x s d ≡ not (eqb (n .b1) (m .b1) && eqb (n .word) (m .word))
-      unfolding topDiffers
-      by-number =
-          simp (ne-eqb _ _ l)
-          (ap not (ap₂ same (top-number s d b) (sym (alone-bytes five h (rw f (part-bytes x c)) ∙ f)) ∙ sym (same-number n m)))
+      by-number : same (topOf s d) (topIn x) ≡ eqb (n .b1) (m .b1) && eqb (n .word) (m .word)
+      by-number = ap₂ same (top-number s d b) (sym (alone-bytes five h (rw f (part-bytes x c)) ∙ f)) ∙ sym (same-number n m)
 
-      pub top-b1 : (n .b1 ≡ m .b1 → ⊥) → true ≡ topDiffers x s d
+      pub top-b1 : (n .b1 ≡ m .b1 → ⊥) → false ≡ same (topOf s d) (topIn x)
       top-b1 z = sym (by-number ∙ simp (ne-eqb _ _ z))
 
-      pub top-word : n .b1 ≡ m .b1 → not (eqb (n .word) (m .word)) ≡ topDiffers x s d
-      top-word z = sym (by-number ∙ simp (eq-eqb _ _ z))
+      pub top-four : n .b1 ≡ m .b1 → (u v : ℕ) → u < 2 ^ 32 → v < 2 ^ 32 → swappedOf u ≡ n .word → swappedOf v ≡ m .word → eqb u v ≡ same (topOf s d) (topIn x)
+      top-four z u v p q i j = swapped-same u v p q ∙ ap₂ eqb i j ∙ sym (by-number ∙ simp (eq-eqb _ _ z))

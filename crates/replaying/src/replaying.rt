@@ -1,5 +1,4 @@
 // The replay.
-use crate::answer::Field;
 use crate::answer::Replayed;
 use crate::answer::Verdict;
 use crate::steps;
@@ -25,41 +24,30 @@ pub fn replay(stack: &mut [u8], recording: &[u8]) -> Replayed
     if recording::not_a_recording(recording) {
         return refused(8);
     }
-    let n = recording.len() / 16;
+    let len = recording.len();
     let mut depth = 0;
-    let mut i = 0;
+    // Counted down: the number that is asked for at the end is then no counter of its own.
+    let mut left = len;
     loop {
-        if i == n {
+        if left == 0 {
             break Replayed {
-                verdict: Verdict::Agree(i),
+                verdict: Verdict::Agree(len / 16),
                 report: 0,
                 depth,
             };
         }
-        let at = 16 * i;
+        let at = len - left;
         let here = &recording[at..at + 16];
-        let report = steps::step(stack, &mut depth, here);
-        if report != recording::report_in(here) {
+        let done = steps::step(stack, &mut depth, here);
+        let report = done.report;
+        if !done.agrees {
+            let field = steps::first_difference(here, report, depth);
             break Replayed {
-                verdict: Verdict::Differ(i, Field::Report),
+                verdict: Verdict::Differ(at / 16, field),
                 report,
                 depth,
             };
         }
-        if depth != recording::depth_in(here) {
-            break Replayed {
-                verdict: Verdict::Differ(i, Field::Depth),
-                report,
-                depth,
-            };
-        }
-        if steps::top_differs(stack, depth, here) {
-            break Replayed {
-                verdict: Verdict::Differ(i, Field::Top),
-                report,
-                depth,
-            };
-        }
-        i += 1;
+        left -= 16;
     }
 }

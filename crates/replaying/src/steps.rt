@@ -1,8 +1,14 @@
-// The step of a record, and whether the top that it leaves is the record's.
+// The step of a record, and whether what it left is the record's.
+use crate::answer::Field;
 use literals::table;
+ghost use Prim.Native.Nat.{_≤_};
 ghost use mathlib.Core.Path.{_≡_};
+ghost use mathlib.Core.Bool.{not};
+ghost use Rattle.slots.specs.Push.{pushOf};
 ghost use Rattle.literals.specs.Operate.{operateOf, outcome};
-ghost use Rattle.replaying.specs.Replay.{stepOf, topDiffers};
+ghost use Rattle.recording.specs.Recording.{topIn, same};
+ghost use Rattle.replaying.specs.Replay.{stepOf, topOf, topDiffers};
+ghost use Rattle.replaying.specs.ReplayLaws.{headDiffers, anyDiffers, firstField};
 
 // The table once more, for the replay alone: the compiler then has each small literal inside its loop, and the calculator's own table stays inside the
 // one call that it is made for.
@@ -10,7 +16,6 @@ fn operate(stack: &mut [u8], depth: &mut usize, literal: u8) -> u8
     ensures { λ r. ⌜ operateOf (now (stack .entry)) (now (depth .entry)) literal ≡ (outcome r (now (depth .exit)), now (stack .exit)) ⌝ }
 {
     match literal {
-        0 => literals::unknown(stack, *depth),
         table::EXCHANGE => moving::exchange(stack, depth),
         table::DELETE => moving::delete(stack, depth),
         table::SUBTRACT => binary::subtract(stack, depth),
@@ -26,32 +31,109 @@ fn operate(stack: &mut [u8], depth: &mut usize, literal: u8) -> u8
     }
 }
 
-// A push for literal 0, and else the literal.
-pub(crate) fn step(stack: &mut [u8], depth: &mut usize, bytes: &[u8]) -> u8
-    ensures { λ r. ⌜ stepOf (now (stack .entry)) (now (depth .entry)) (now (bytes .entry)) ≡ (outcome r (now (depth .exit)), now (stack .exit)) ⌝ }
+// As `moving::push`, but room is one comparison. The bound of the new depth is for the product in `step`.
+fn push(stack: &mut [u8], depth: &mut usize, number: &[u8]) -> u8
+    ensures { λ r. ⌜ (pushOf (now (stack .entry)) (now (depth .entry)) (now (number .entry)) ≡ (outcome r (now (depth .exit)), now (stack .exit)))
+        × (r ≡ 0 → now (depth .exit) ≤ 3200) ⌝ }
 {
-    let literal = recording::literal_in(bytes);
-    if literal == 0 {
-        let done = calculator::push(stack, *depth, recording::top_in(bytes));
-        *depth = done.depth;
-        return done.report;
+    let old = *depth;
+    let after = std::num::wrapping_add_usize(old, 1);
+    if slots::lacks_top(stack, after) {
+        return slots::refusal(stack, old, 0);
     }
-    operate(stack, depth, literal)
+    if number.len() != 5 {
+        return 3;
+    }
+    if slots::malformed_at(number, 1, 0) {
+        return 3;
+    }
+    let b1 = slots::b1_at(number, 1, 0);
+    let word = slots::word_at(number, 1, 0);
+    slots::put_top(stack, after, b1, word);
+    *depth = after;
+    0
 }
 
-// Not asked of a push. A stack without a top reads as zeros, which is what its record has.
+fn has_head(bytes: &[u8], report: u8, depth: usize) -> bool
+    ensures { λ r. ⌜ not r ≡ headDiffers (now (bytes .entry)) report depth ⌝ }
+{
+    if report != recording::report_in(bytes) {
+        return false;
+    }
+    depth == recording::depth_in(bytes)
+}
+
+// A stack without a top reads as zeros, which is what its record has. Four bytes are compared as they lie, so that nothing is swapped.
+fn has_top(stack: &[u8], depth: usize, bytes: &[u8]) -> bool
+    ensures { λ r. ⌜ r ≡ same (topOf (now (stack .entry)) depth) (topIn (now (bytes .entry))) ⌝ }
+{
+    let five = recording::top_in(bytes);
+    if five.len() != 5 {
+        return false;
+    }
+    if slots::top_b1(stack, depth) != slots::top_b1(five, 1) {
+        return false;
+    }
+    slots::top_four(stack, depth) == slots::top_four(five, 1)
+}
+
+// Not asked of a push.
 pub fn top_differs(stack: &[u8], depth: usize, bytes: &[u8]) -> bool
     ensures { λ r. ⌜ r ≡ topDiffers (now (bytes .entry)) (now (stack .entry)) depth ⌝ }
 {
     if recording::literal_in(bytes) == 0 {
         return false;
     }
-    let five = recording::top_in(bytes);
-    if five.len() != 5 {
-        return true;
+    !has_top(stack, depth, bytes)
+}
+
+pub(crate) struct Done {
+    pub report: u8,
+    pub agrees: bool,
+}
+
+// A push for literal 0, and else the literal; and whether the record agrees. Where a push is done, its record's literal and report are 0: one comparison
+// is all.
+pub(crate) fn step(stack: &mut [u8], depth: &mut usize, bytes: &[u8]) -> Done
+    ensures { λ r. ⌜ (stepOf (now (stack .entry)) (now (depth .entry)) (now (bytes .entry)) ≡ (outcome (r .report) (now (depth .exit)), now (stack .exit)))
+        × (not (r .agrees) ≡ anyDiffers (now (bytes .entry)) (r .report) (now (depth .exit)) (now (stack .exit))) ⌝ }
+{
+    let literal = recording::literal_in(bytes);
+    if literal == 0 {
+        let report = push(stack, depth, recording::top_in(bytes));
+        if report != 0 {
+            return Done {
+                report,
+                agrees: has_head(bytes, report, *depth),
+            };
+        }
+        return Done {
+            report: 0,
+            agrees: recording::head_in(bytes) == 65536 * *depth as u32,
+        };
     }
-    if slots::b1_at(stack, depth, 0) != slots::b1_at(five, 1, 0) {
-        return true;
+    let report = operate(stack, depth, literal);
+    if has_head(bytes, report, *depth) {
+        return Done {
+            report,
+            agrees: has_top(stack, *depth, bytes),
+        };
     }
-    slots::word_at(stack, depth, 0) != slots::word_at(five, 1, 0)
+    Done {
+        report,
+        agrees: false,
+    }
+}
+
+// Which field it is, of a record that does not agree.
+pub(crate) fn first_difference(bytes: &[u8], report: u8, depth: usize) -> Field
+    ensures { λ r. ⌜ r ≡ firstField (now (bytes .entry)) report depth ⌝ }
+{
+    if report != recording::report_in(bytes) {
+        return Field::Report;
+    }
+    if depth != recording::depth_in(bytes) {
+        return Field::Depth;
+    }
+    Field::Top
 }

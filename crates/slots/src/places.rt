@@ -1,11 +1,12 @@
 // Where the bytes of a number stand: slot i is bytes 5i to 5i+4. A number is asked for by how many stand above it: none above the top, one
 // above the lower operand. Where the stack lacks it, it reads as zero and nothing is written; a caller that has asked `lacks` pays nothing for that.
 use crate::reach::lacks;
+use crate::reach::lacks_top;
 use number::Number;
 ghost use mathlib.Core.Path.{_≡_};
 ghost use Prim.Native.Nat.{_+_, _*_, _≤_};
 ghost use lib.ListN.{length};
-ghost use Rattle.number.specs.Number.{number as numberOf, b2, low, malformed};
+ghost use Rattle.number.specs.Number.{number as numberOf, b2, low, malformed, swappedOf};
 ghost use Rattle.slots.specs.Slots.{putIn};
 ghost use Rattle.slots.specs.SlotLaws.{fourIn, putFour};
 ghost use Rattle.slots.specs.Reach.{numberAt, putAt};
@@ -125,4 +126,32 @@ pub fn put_word_at(stack: &mut [u8], depth: usize, above: u8, word: u32)
         return;
     }
     put_four(stack, depth - nth, number::swapped(word));
+}
+
+// The same of the top alone, for a caller that has asked `lacks_top`: its b1, its b2 to b5 as they lie, and a number put there.
+pub fn top_b1(stack: &[u8], depth: usize) -> u8
+    ensures { λ r. ⌜ r ≡ numberAt (now (stack .entry)) depth 0 .b1 ⌝ }
+{
+    if lacks_top(stack, depth) {
+        return 0;
+    }
+    stack[5 * (depth - 1)]
+}
+
+pub fn top_four(stack: &[u8], depth: usize) -> u32
+    ensures { λ r. ⌜ swappedOf r ≡ numberAt (now (stack .entry)) depth 0 .word ⌝ }
+{
+    if lacks_top(stack, depth) {
+        return 0;
+    }
+    four_in(stack, depth - 1)
+}
+
+pub fn put_top(stack: &mut [u8], depth: usize, b1: u8, word: u32)
+    ensures { λ _. ⌜ now (stack .exit) ≡ putAt (now (stack .entry)) depth 0 (numberOf b1 word) ⌝ }
+{
+    if lacks_top(stack, depth) {
+        return;
+    }
+    put_in(stack, depth - 1, Number { b1, word });
 }

@@ -39,6 +39,18 @@ pub fn lacks_at(stack: &[u8], depth: &usize, takes: usize) -> bool
     9223372036854775808 <= std::num::wrapping_sub_usize(len, 5 * d)
 }
 
+// Whether there is no top, by one comparison behind the limit of the length: depth 0 wraps to a slot that no stack has. A caller that asks it of one stack
+// over and over has the quotient computed once.
+pub fn lacks_top(stack: &[u8], depth: usize) -> bool
+    ensures { λ r. ⌜ r ≡ lacking (now (stack .entry)) depth 1 ⌝ }
+{
+    let len = stack.len();
+    if 16000 < len {
+        return true;
+    }
+    len / 5 <= std::num::wrapping_sub_usize(depth, 1)
+}
+
 // Which report it is; 4 where neither 1 nor 2 is. It asks anew and in its own way (`over_limits`): with the same tests as above, the compiler would
 // compute them once for both, and branch on none.
 pub fn refusal(stack: &[u8], depth: usize, takes: usize) -> u8

@@ -1,5 +1,5 @@
 -- `is_stray` meets its contract: the eight bytes make a number over 255 exactly where one above the lowest is not zero.
-use Prim.Native.Nat.{_+_, _*_}
+use Prim.Native.Nat.{_+_}
 use native.Mathlib.Omega.{arith}
 use Rattle.recording.specs.RecordingLaws.{stray-by}
 use Rattle.recording.proofs.whole.is_stray.Statement.{statement}
@@ -25,8 +25,7 @@ is-stray-spec =
     (λ c. omega arith)
     (λ c. omega arith)
     (λ c. omega arith)
-    (λ c. omega arith)
     (λ c κs. tt)
     (λ c.
     let a = c .before .before .before .before .before .before .before .before .before .before .args in
-    stray-by (a .recording .now) (a .i) (omega arith) (omega (arith, c .before .shared-slice-known9 .given (16 * a .i + 8))) _ (c .joined .ensures)))
+    stray-by (a .recording .now) (a .at) (omega arith) (omega (arith, c .before .shared-slice-known9 .given (a .at + 8))) _ (c .joined .ensures)))
