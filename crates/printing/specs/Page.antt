@@ -3,7 +3,6 @@ use Prim.Native.Nat.{ℕ, zero, suc, _+_}
 use mathlib.Core.Bool.{cond, not, _||_}
 use mathlib.Core.List.{List, [], _∷_, _++_}
 use lib.Dec.{eqb}
-use Rattle.text.specs.Put.{Text, putsOf}
 use Rattle.text.specs.Ascii.{ascii}
 use Rattle.text.specs.Digits.{decimalOf}
 use Rattle.slots.specs.View.{viewOf}
@@ -13,7 +12,7 @@ use Rattle.replaying.specs.declared.answer.Replayed.{Replayed}
 use Rattle.replaying.specs.declared.answer.Verdict.{Verdict}
 use Rattle.replaying.specs.declared.answer.Verdict.the-variants.{Agree, Differ, Refused}
 use Rattle.replaying.specs.Replay.{isPush, topDiffers}
-use Rattle.printing.specs.Verdict.{verdictLine}
+use Rattle.telling.specs.Verdict.{verdictLine}
 use Rattle.printing.specs.Names.{nameOf}
 
 -- "report, depth and top as `calc` prints them": a literal's record of an empty stack, with depth 0 and zeros, has no top
@@ -36,11 +35,3 @@ doneLines r (Refused n) report depth top = []
 
 unfoldable pub pageOf : List ℕ → Replayed × List ℕ → List ℕ
 pageOf r x = doneLines r (x .0 .verdict) (x .0 .report) (x .0 .depth) (viewOf (x .1) (x .0 .depth)) ++ verdictLine (x .0 .verdict)
-
--- the line that `replay` prints
-abbrev pub answerOf : Replayed × List ℕ → List ℕ
-answerOf x = verdictLine (x .0 .verdict)
-
--- the stack after a replay, and a text of it, put into a buffer that is lent
-abbrev pub printed : Replayed × List ℕ → List ℕ → (Replayed × List ℕ → List ℕ) → List ℕ × Text
-printed x out f = (x .1, putsOf (out, 0) (f x))

@@ -1,4 +1,4 @@
--- Buffers of 64 and 460,000 bytes have room for all that `replay` and `show` print: what stands in them is the line and the page, whole.
+-- A buffer of 460,000 bytes has room for all that `show` prints: what stands in it is the page, whole.
 use Prim.Native.Nat.{ℕ, zero, suc, _+_, _*_, _≤_}
 use mathlib.Core.Path.{_≡_}
 use mathlib.Core.Bool.{Bool, true, false, cond, not, _||_}
@@ -16,32 +16,16 @@ use Rattle.wording.specs.Room.{step-room}
 use Rattle.recording.specs.Recording.{literalIn, reportIn, depthIn, first, later}
 use Rattle.replaying.specs.declared.answer.Verdict.{Verdict}
 use Rattle.replaying.specs.declared.answer.Verdict.the-variants.{Agree, Differ, Refused}
-use Rattle.replaying.specs.declared.answer.Field.{Field}
-use Rattle.replaying.specs.declared.answer.Field.the-variants.{Report, Depth, Top}
 use Rattle.replaying.specs.Replay.{isPush, topDiffers, replayOf}
 use Rattle.replaying.specs.Bounds.{spoken, spoken-most}
-use Rattle.printing.specs.Verdict.{fieldName, verdictLine}
+use Rattle.telling.specs.Verdict.{verdictLine}
+use Rattle.telling.specs.Room.{verdict-length}
 use Rattle.printing.specs.Names.{nameOf}
-use Rattle.printing.specs.Page.{shownTop, recordLine, recordLines, doneLines, answerOf, pageOf}
+use Rattle.printing.specs.Page.{shownTop, recordLine, recordLines, doneLines, pageOf}
 
 either : (b : Bool) (k : ℕ) (xs ys : List ℕ) → length xs ≤ k → length ys ≤ k → length (cond b xs ys) ≤ k
 either true k xs ys p q = p
 either false k xs ys p q = q
-
-field-length : (f : Field) → length (fieldName f) ≤ 8
-unfolding fieldName
-field-length Report = omega arith
-field-length Depth = omega arith
-field-length Top = omega arith
-
-verdict-length : (v : Verdict) → length (verdictLine v) ≤ 36
-unfolding verdictLine
-verdict-length (Agree n) =
-    omega (arith, length-append (ascii "agree ") (decimalOf n), length-append (ascii "agree " ++ decimalOf n) (10 ∷ []), digits-length 19 n)
-verdict-length (Differ n f) =
-    omega (arith, length-append (ascii "differ ") (decimalOf n), length-append (ascii "differ " ++ decimalOf n) (fieldName f), digits-length 19 n, field-length f)
-verdict-length (Refused n) =
-    omega (arith, length-append (ascii "refused ") (decimalOf n), length-append (ascii "refused " ++ decimalOf n) (10 ∷ []), digits-length 19 n)
 
 name-length : (l : ℕ) → length (nameOf l) ≤ 28
 unfolding nameOf
@@ -106,9 +90,6 @@ done-length r (Differ n f) report depth top h =
 done-length r (Refused n) report depth top h = omega arith
 
 module _ (s r out : List ℕ) where
-  pub line-whole : length out ≡ 64 → before (putsOf (out, 0) (answerOf (replayOf s r))) ≡ answerOf (replayOf s r)
-  line-whole h = puts-whole out _ (omega (arith, verdict-length (replayOf s r .0 .verdict)))
-
   pub page-whole : length out ≡ 460000 → before (putsOf (out, 0) (pageOf r (replayOf s r))) ≡ pageOf r (replayOf s r)
   unfolding pageOf
   page-whole h =

@@ -1,8 +1,6 @@
-// What `replay` and `show` print of a recording.
+// What `show` prints of a recording.
 mod names;
 mod pages;
 mod records;
-mod verdicts;
 
-pub use pages::print_replay;
 pub use pages::print_show;

@@ -1,6 +1,5 @@
-// What each program prints of a recording that is replayed on a stack.
+// What `show` prints of a recording that is replayed on a stack.
 use crate::records::put_records;
-use crate::verdicts::put_verdict;
 use replaying::Verdict;
 ghost use mathlib.Core.Path.{_≡_};
 ghost use Rattle.text.specs.Put.{putsOf};
@@ -8,16 +7,8 @@ ghost use Prim.Native.Nat.{_≤_};
 ghost use Rattle.recording.specs.Recording.{records};
 ghost use Rattle.replaying.specs.Replay.{replayOf};
 ghost use Rattle.replaying.specs.Bounds.{spoken};
-ghost use Rattle.printing.specs.Page.{doneLines, answerOf, pageOf, printed};
-
-pub fn print_replay(stack: &mut [u8], recording: &[u8], out: &mut [u8]) -> usize
-    ensures { λ r. ⌜ (now (stack .exit), (now (out .exit), r))
-        ≡ printed (replayOf (now (stack .entry)) (now (recording .entry))) (now (out .entry)) answerOf ⌝ }
-{
-    let done = replaying::replay(stack, recording);
-    let verdict = done.verdict;
-    put_verdict(out, 0, verdict)
-}
+ghost use Rattle.telling.specs.Verdict.{printed};
+ghost use Rattle.printing.specs.Page.{doneLines, pageOf};
 
 // The records as far as they were done, and what the last of them gave where it differs.
 fn put_done(
@@ -58,5 +49,5 @@ pub fn print_show(stack: &mut [u8], recording: &[u8], out: &mut [u8]) -> usize
         depth,
         calculator::view(stack, depth),
     );
-    put_verdict(out, end, verdict)
+    telling::put_verdict(out, end, verdict)
 }

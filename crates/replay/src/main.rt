@@ -27,7 +27,7 @@ fn main() {
         );
         return;
     }
-    let n = printing::print_replay(&mut stack, text::first(&recording, taken.held), &mut out);
+    let n = telling::print_replay(&mut stack, text::first(&recording, taken.held), &mut out);
     if !io::write_all(STDOUT_FILENO, text::first(&out, n)) {
         io::write_all(
             STDERR_FILENO,

@@ -5,7 +5,7 @@ ghost use mathlib.Core.Path.{_≡_};
 ghost use mathlib.Core.List.{_++_};
 ghost use Rattle.text.specs.Put.{putsOf};
 ghost use Rattle.text.specs.Digits.{decimalOf};
-ghost use Rattle.printing.specs.Verdict.{fieldName, verdictLine};
+ghost use Rattle.telling.specs.Verdict.{fieldName, verdictLine};
 
 fn put_field(out: &mut [u8], at: usize, field: Field) -> usize
     ensures { λ r. ⌜ (now (out .exit), r) ≡ putsOf (now (out .entry), at) (fieldName field) ⌝ }
@@ -24,7 +24,7 @@ fn put_count(out: &mut [u8], at: usize, word: &[u8], n: u64) -> usize
     text::put_decimal(out, digits, n)
 }
 
-pub(crate) fn put_verdict(out: &mut [u8], at: usize, verdict: Verdict) -> usize
+pub fn put_verdict(out: &mut [u8], at: usize, verdict: Verdict) -> usize
     ensures { λ r. ⌜ (now (out .exit), r) ≡ putsOf (now (out .entry), at) (verdictLine verdict) ⌝ }
 {
     match verdict {

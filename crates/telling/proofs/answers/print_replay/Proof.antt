@@ -1,8 +1,8 @@
 -- `print_replay` meets its contract: the replay, and the line for its verdict.
 use mathlib.Core.Path.{ap}
 use Rattle.text.specs.Put.{Text}
-use Rattle.printing.proofs.pages.print_replay.Statement.{statement}
-use Rattle.printing.proofs.pages.print_replay.Tie as tie
+use Rattle.telling.proofs.answers.print_replay.Statement.{statement}
+use Rattle.telling.proofs.answers.print_replay.Tie as tie
 
 returns : tie.Need-returns
 returns c = rw (c .before .before .before .before .before .before .replay .ensures) (ap (λ (t : Text). (c .before .before .before .before .before .before .replay .last .0, t)) (c .before .before .put-verdict .ensures))

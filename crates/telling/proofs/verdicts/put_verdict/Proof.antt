@@ -2,9 +2,9 @@
 use borrow.Author.Needs.{needs}
 use mathlib.Core.Path.{refl, _∙_}
 use Rattle.text.specs.Put.{puts-then, put-last}
-use Rattle.printing.specs.Verdict.{verdictLine}
-use Rattle.printing.proofs.verdicts.put_verdict.Statement.{statement}
-use Rattle.printing.proofs.verdicts.put_verdict.Tie as tie
+use Rattle.telling.specs.Verdict.{verdictLine}
+use Rattle.telling.proofs.verdicts.put_verdict.Statement.{statement}
+use Rattle.telling.proofs.verdicts.put_verdict.Tie as tie
 
 pub put-verdict-spec : {M : Type 1} → statement M
 unfolding verdictLine

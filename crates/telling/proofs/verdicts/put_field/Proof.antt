@@ -1,9 +1,9 @@
 -- `put_field` meets its contract: its arms are the definition's.
 use borrow.Author.Needs.{needs}
 use mathlib.Core.Path.{refl}
-use Rattle.printing.specs.Verdict.{fieldName}
-use Rattle.printing.proofs.verdicts.put_field.Statement.{statement}
-use Rattle.printing.proofs.verdicts.put_field.Tie as tie
+use Rattle.telling.specs.Verdict.{fieldName}
+use Rattle.telling.proofs.verdicts.put_field.Statement.{statement}
+use Rattle.telling.proofs.verdicts.put_field.Tie as tie
 
 pub put-field-spec : {M : Type 1} → statement M
 unfolding fieldName
