@@ -6,4 +6,3 @@ mod steps;
 
 pub use answering::Answered;
 pub use answering::answer_line;
-pub use steps::step;

@@ -4,7 +4,7 @@ use sheet::Line;
 ghost use mathlib.Core.Path.{_≡_};
 ghost use Rattle.reply.specs.Step.{stepOf};
 
-pub fn step(stack: &mut [u8], depth: usize, said: Line) -> Outcome
+pub(crate) fn step(stack: &mut [u8], depth: usize, said: Line) -> Outcome
     ensures { λ r. ⌜ stepOf (now (stack .entry)) depth said ≡ (r, now (stack .exit)) ⌝ }
 {
     match said {
