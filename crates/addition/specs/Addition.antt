@@ -1,11 +1,11 @@
--- Document 01, "Addition and subtraction (003)".
+-- Document 01, "Addition and subtraction (003)", and document 02, A2, "The fifth byte of a short sum".
 use Prim.Native.Nat.{ℕ, _+_, _-_, _^_, max}
 use mathlib.Core.Bool.{Bool, true, false, cond, _&&_}
 use lib.Dec.{ltb, leb, eqb}
 use lib.IntN.{ℤ, pos, negsuc, negℤ, natAbs, _+ℤ_}
 use lib.Signed.{leZ, shrZ}
 use Rattle.number.specs.declared.Number.{Number}
-use Rattle.number.specs.Number.{sign, mantissa, shortOf}
+use Rattle.number.specs.Number.{sign, mantissa, shortOf, storedOver}
 use Rattle.number.specs.Value.{signed, shortValue}
 use Rattle.number.specs.Restack.{restacked}
 use Rattle.number.specs.Negate.{negated}
@@ -72,9 +72,10 @@ alignedSum x y = endedSum (wholeSum x y) (larger x y)
 unfoldable pub fullRoute : Number → Number → Answer
 fullRoute x y = alignedSum (restacked x) (restacked y)
 
--- "Short route, both b1 zero. ... A sum from -65,536 to 65,535 is stored short ... Otherwise, the full route."
+-- "Short route, both b1 zero. ... A sum from -65,536 to 65,535 is stored short ... Otherwise, the full route." A2: the listing "stores only the
+-- second, third and fourth bytes, so the first number's own b5 stays".
 unfoldable pub shortRoute : Number → Number → Answer
-shortRoute x y = cond (storedShort (shortSum x y)) (Done (shortOfWhole (shortSum x y))) (fullRoute x y)
+shortRoute x y = cond (storedShort (shortSum x y)) (Done (storedOver x (shortOfWhole (shortSum x y)))) (fullRoute x y)
 
 unfoldable pub sumOf : Number → Number → Answer
 sumOf x y = cond (eqb (x .b1) 0) (cond (eqb (y .b1) 0) (shortRoute x y) (fullRoute x y)) (fullRoute x y)

@@ -7,7 +7,7 @@ use native.Mathlib.Omega.{arith}
 use lib.Dec.{ltb}
 use lib.IntN.{ℤ, pos, negsuc, negℤ, _+ℤ_, _-ℤ_, +ℤ-comm, +ℤ-assoc}
 use Rattle.number.specs.declared.Number.{Number}
-use Rattle.number.specs.Number.{sign, low, complementOf, halves}
+use Rattle.number.specs.Number.{sign, low, complementOf, halves, storedOver}
 use Rattle.number.specs.Value.{shortValue}
 use Rattle.ending.specs.declared.answer.Answer.the-variants.{Done}
 use Rattle.addition.specs.Addition.{storedShort, shortSum, shortOfWhole, fullRoute, shortRoute, sumOf}
@@ -100,9 +100,9 @@ module _ (x y : Number) where
   sum-2 h k = ap storedShort sum-as ∙ beyond-bits (low x + low y) (wrapped x y) carry (negatives x y) total (omega arith) h k
 
   -- the short route, by what the sum comes to
-  routed : {z : ℤ} → shortSum x y ≡ z → shortRoute x y ≡ cond (storedShort z) (Done (shortOfWhole z)) (fullRoute x y)
+  routed : {z : ℤ} → shortSum x y ≡ z → shortRoute x y ≡ cond (storedShort z) (Done (storedOver x (shortOfWhole z))) (fullRoute x y)
   unfolding shortRoute
-  routed e = ap (λ (w : ℤ). cond (storedShort w) (Done (shortOfWhole w)) (fullRoute x y)) e
+  routed e = ap (λ (w : ℤ). cond (storedShort w) (Done (storedOver x (shortOfWhole w))) (fullRoute x y)) e
 
   -- ---- how a sum goes
 
@@ -120,7 +120,7 @@ module _ (x y : Number) where
       unfolding sumOf
       short = simp (eq-eqb (x .b1) 0 f, eq-eqb (y .b1) 0 g)
 
-      pub short-stored : storedShort (shortSum x y) ≡ true → sumOf x y ≡ Done (shortOfWhole (shortSum x y))
+      pub short-stored : storedShort (shortSum x y) ≡ true → sumOf x y ≡ Done (storedOver x (shortOfWhole (shortSum x y)))
       unfolding shortRoute
       short-stored h = short ∙ simp h
 
@@ -128,15 +128,15 @@ module _ (x y : Number) where
       unfolding shortRoute
       short-beyond h = short ∙ simp h
 
-      pub sum-positive : carryOf (wrapped x y) (low x) ≡ negatives x y → sumOf x y ≡ Done (halves 0 (wrapped x y))
+      pub sum-positive : carryOf (wrapped x y) (low x) ≡ negatives x y → sumOf x y ≡ Done (storedOver x (halves 0 (wrapped x y)))
       sum-positive h =
           short ∙ routed (sum-0 h) ∙ simp (le-leb (wrapped x y) 65535 (omega arith))
 
-      pub sum-negative : carryOf (wrapped x y) (low x) + 1 ≡ negatives x y → sumOf x y ≡ Done (halves 255 (wrapped x y))
+      pub sum-negative : carryOf (wrapped x y) (low x) + 1 ≡ negatives x y → sumOf x y ≡ Done (storedOver x (halves 255 (wrapped x y)))
       sum-negative h =
           let w = wrapped x y in
           let k = 65535 - w in
-          short ∙ routed (sum-1 h) ∙ simp (le-leb k 65535 (omega arith)) (ap (λ (n : ℕ). Done (halves 255 n)) (again w (omega arith)))
+          short ∙ routed (sum-1 h) ∙ simp (le-leb k 65535 (omega arith)) (ap (λ (n : ℕ). Done (storedOver x (halves 255 n))) (again w (omega arith)))
 
       pub sum-beyond : (carryOf (wrapped x y) (low x) ≡ negatives x y → ⊥) → (carryOf (wrapped x y) (low x) + 1 ≡ negatives x y → ⊥) → sumOf x y ≡ fullRoute x y
       sum-beyond h k =

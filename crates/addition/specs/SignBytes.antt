@@ -9,8 +9,8 @@ use native.Mathlib.Omega.{arith}
 use lib.Dec.{ltb, eqb}
 use lib.IntN.{ℤ}
 use Rattle.number.specs.declared.Number.{Number}
-use Rattle.number.specs.Number.{number, malformed, sign, low, complementOf, shortMagnitude, halves, shortOf}
-use Rattle.number.specs.NumberLaws.{places, low-halves, magnitude-cases}
+use Rattle.number.specs.Number.{b2, number, malformed, sign, low, complementOf, shortMagnitude, halves, shortOf}
+use Rattle.number.specs.NumberLaws.{places, halves-bytes, low-halves, magnitude-cases}
 use Rattle.number.specs.FormLaws.{malformed-short, malformed-between, malformed-negative}
 use Rattle.number.specs.Negate.{negated}
 use Rattle.number.specs.NegateLaws.{negate-zero, negate-short}
@@ -20,9 +20,9 @@ use Rattle.addition.specs.declared.short.Halves.{Halves}
 use Rattle.addition.specs.Addition.{storedShort, shortSum, shortOfWhole, secondOf}
 use Rattle.addition.specs.ShortRouteLaws.{carryOf, wrapped, again, sum-0, sum-1, sum-2}
 
--- what the short route answers of a sum
+-- what the short route answers of a sum: the three bytes that are stored, as a sign byte and a low half
 abbrev pub told : ℤ → Short
-told z = cond (storedShort z) (Stored (shortOfWhole z .word)) Beyond
+told z = cond (storedShort z) (Stored (b2 (shortOfWhole z)) (low (shortOfWhole z))) Beyond
 
 unfoldable pub shortAnswer : Bool → Number → Number → Short
 shortAnswer less x y = cond (malformed x || malformed y) Malformed (told (shortSum x (secondOf less y)))
@@ -106,21 +106,21 @@ module _ (x y : Number) (b c k : ℕ) (p : b ≡ 255 * sign x) (q : c ≡ 255 * 
       go true = omega arith
       go false = omega arith
 
-  pub told-stored : (k + 1) % 256 < 2 → told (shortSum x y) ≡ Stored (halves k (wrapped x y) .word)
-  told-stored g = go (eqb k 0) refl
+  pub told-stored : (k + 1) % 256 < 2 → told (shortSum x y) ≡ Stored k (wrapped x y)
+  told-stored g = go (eqb k 0) refl ∙ ap₂ Stored (halves-bytes k w (omega arith) .0) (low-halves k w (omega arith))
     where
       w : ℕ
       w = wrapped x y
 
-      go : (t : Bool) → eqb k 0 ≡ t → told (shortSum x y) ≡ Stored (halves k w .word)
+      go : (t : Bool) → eqb k 0 ≡ t → told (shortSum x y) ≡ Stored (b2 (halves k w)) (low (halves k w))
       go true e =
           let none = eqb-true k 0 e in
           ap told (sum-0 x y (omega (arith, ways)))
-          ∙ simp (le-leb w 65535 (omega arith)) (ap (λ (i : ℕ). Stored (halves i w .word)) (sym none))
+          ∙ simp (le-leb w 65535 (omega arith)) (ap (λ (i : ℕ). Stored (b2 (halves i w)) (low (halves i w))) (sym none))
       go false e =
           let all : k ≡ 255 = omega (arith, eqb-false k 0 e) in
           ap told (sum-1 x y (omega (arith, ways)))
-          ∙ simp (le-leb (65535 - w) 65535 (omega arith)) (ap₂ (λ (i j : ℕ). Stored (halves i j .word)) (sym all) (again w (omega arith)))
+          ∙ simp (le-leb (65535 - w) 65535 (omega arith)) (ap₂ (λ (i j : ℕ). Stored (b2 (halves i j)) (low (halves i j))) (sym all) (again w (omega arith)))
 
   pub told-beyond : 2 ≤ (k + 1) % 256 → told (shortSum x y) ≡ Beyond
   told-beyond g = simp (sum-2 x y (λ e. omega (arith, ways)) (λ e. omega (arith, ways)))

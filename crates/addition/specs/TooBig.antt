@@ -17,7 +17,7 @@ use Rattle.number.specs.NegateLaws.{negated-exponent}
 use Rattle.ending.specs.declared.answer.Answer.{Answer}
 use Rattle.ending.specs.declared.answer.Answer.the-variants.{Done, TooBig}
 use Rattle.ending.specs.EndingLaws.{ended-too-big-only}
-use Rattle.addition.specs.Addition.{storedShort, shortSum, shortOfWhole, endedWhole, endedSum, larger, wholeSum, alignedSum, fullRoute, shortRoute, sumOf, differenceOf}
+use Rattle.addition.specs.Addition.{storedShort, shortSum, endedWhole, endedSum, larger, wholeSum, alignedSum, fullRoute, shortRoute, sumOf, differenceOf}
 use Rattle.addition.specs.AdditionLaws.{carried-255}
 use Rattle.addition.specs.ShortRouteLaws.{first-full, second-full}
 
@@ -41,7 +41,7 @@ pub sum-too-big : (x y : Number) → x .b1 < 256 → y .b1 < 256 → (sumOf x y 
 unfolding sumOf shortRoute fullRoute alignedSum
 sum-too-big x y bx by = (
   (λ h.
-      let r = only (eqb (x .b1) 0) (eqb (y .b1) 0) (storedShort (shortSum x y)) (shortOfWhole (shortSum x y)) (fullRoute x y) h in
+      let r = only (eqb (x .b1) 0) (eqb (y .b1) 0) (storedShort (shortSum x y)) _ (fullRoute x y) h in
       let c = carried-only _ _ (omega (arith, restacked-exponent x 255 (omega arith) (omega arith), restacked-exponent y 255 (omega arith) (omega arith))) r in
       record { exponent = c .0; carries = c .1 }),
   so,

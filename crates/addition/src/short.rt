@@ -6,8 +6,8 @@ ghost use Rattle.addition.specs.SignBytes.{secondHalves, shortAnswer};
 
 pub enum Short {
     Malformed,
-    // The word of the sum.
-    Stored(u32),
+    // The sum's sign byte and low half.
+    Stored(u8, u16),
     // The sum goes the full route.
     Beyond,
 }
@@ -61,7 +61,7 @@ pub fn short_sum(x: u32, y: u32, less: bool) -> Short
     let bytes = std::num::wrapping_add_u8(b, other.byte);
     let settled = std::num::wrapping_add_u8(bytes, carry_of(sum, first));
     if std::num::wrapping_add_u8(settled, 1) < 2 {
-        return Short::Stored(number::halves_word(settled, sum));
+        return Short::Stored(settled, sum);
     }
     Short::Beyond
 }

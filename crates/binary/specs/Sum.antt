@@ -7,7 +7,8 @@ use borrow.Author.Tests.{eq-eqb, ne-eqb, eqb-true, eqb-false}
 use lib.Dec.{eqb}
 use lib.IntN.{ℤ}
 use Rattle.number.specs.declared.Number.{Number}
-use Rattle.number.specs.Number.{number, malformed}
+use Rattle.number.specs.Number.{b2, low, malformed, halves, storedOver}
+use Rattle.number.specs.NumberLaws.{over-parts}
 use Rattle.number.specs.Negate.{negated}
 use Rattle.number.specs.NegateLaws.{negate-full, negated-exponent}
 use Rattle.ending.specs.declared.answer.Answer.{Answer}
@@ -67,7 +68,7 @@ module _ (less : Bool) (x y : Number) where
 -- what an answer says
 abbrev pub Says : Bool → Number → Number → Short → Type 0
 Says less x y Malformed = malformed x || malformed y ≡ true
-Says less x y (Stored w) = (malformed x || malformed y ≡ false) × (sumOf x (secondOf less y) ≡ Done (number (x .b1) w))
+Says less x y (Stored b h) = (malformed x || malformed y ≡ false) × (sumOf x (secondOf less y) ≡ Done (storedOver x (halves b h)))
 Says less x y Beyond = GoesFull less x y
 
 pub route-says : (less : Bool) (x y : Number) → Says less x y (routeOf less x y)
@@ -82,11 +83,10 @@ route-says less x y = go (eqb (x .b1) 0) (eqb (y .b1) 0) (malformed x || malform
     none false h = h
 
     go : (a b m t : Bool) → eqb (x .b1) 0 ≡ a → eqb (y .b1) 0 ≡ b → malformed x || malformed y ≡ m → storedShort z ≡ t
-        → Says less x y (cond a (cond b (cond m Malformed (cond t (Stored (shortOfWhole z .word)) Beyond)) Beyond) Beyond)
+        → Says less x y (cond a (cond b (cond m Malformed (cond t (Stored (b2 (shortOfWhole z)) (low (shortOfWhole z))) Beyond)) Beyond) Beyond)
     go true true true t e f g h = g
     go true true false true e f g h =
-        let first = eqb-true (x .b1) 0 e in
-        (g, short-stored x (secondOf less y) first (none less (eqb-true _ 0 f)) h ∙ ap (λ (b : ℕ). Done (number b (shortOfWhole z .word))) (sym first))
+        (g, short-stored x (secondOf less y) (eqb-true _ 0 e) (none less (eqb-true _ 0 f)) h ∙ ap Done (sym (over-parts x (shortOfWhole z))))
     go true true false false e f g h = short-beyond x (secondOf less y) (eqb-true _ 0 e) (none less (eqb-true _ 0 f)) h
     go true false m t e f g h = goes-second less x y (eqb-true _ 0 e) (eqb-false (y .b1) 0 f)
     go false b m t e f g h = goes-first less x y (eqb-false (x .b1) 0 e)

@@ -58,8 +58,8 @@ fn sum(stack: &mut [u8], depth: &mut usize, flip: u32, taken: usize, left: usize
     let short = short_route(stack, old, flip);
     match short {
         Short::Malformed => 3,
-        Short::Stored(word) => {
-            slots::put_word_at(stack, old, 1, word);
+        Short::Stored(byte, low) => {
+            slots::put_halves_at(stack, old, 1, byte, low);
             *depth = *depth - taken + left;
             0
         }

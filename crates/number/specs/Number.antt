@@ -78,6 +78,10 @@ shortMagnitude x = cond (eqb (sign x) 0) (low x) (complementOf (low x))
 abbrev pub halves : ℕ → ℕ → Number
 halves b h = bytes 0 b (h % 256) (h / 256) 0
 
+-- x with b2, b3 and b4 of n stored over its own; b1 and b5 stay.
+abbrev pub storedOver : Number → Number → Number
+storedOver x n = bytes (x .b1) (b2 n) (b3 n) (b4 n) (b5 x)
+
 -- The short number with sign s that is v away from zero. (With sign 1, 65,536 makes odd.)
 abbrev pub shortOf : ℕ → ℕ → Number
 shortOf s v = number 0 (cond (eqb s 0) (halves 0 v .word) (halves 255 (complementOf v) .word))

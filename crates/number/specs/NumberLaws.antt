@@ -8,7 +8,7 @@ use native.Mathlib.Omega.{arith}
 use borrow.Author.Tests.{eqb-true, eqb-false, eq-eqb, ne-eqb}
 use lib.Dec.{eqb}
 use Rattle.number.specs.declared.Number.{Number}
-use Rattle.number.specs.Number.{b2, b3, b4, b5, wordOf, swappedOf, sign, mantissa, fullOf, low, complementOf, shortMagnitude, halves, passesZeroTest}
+use Rattle.number.specs.Number.{b2, b3, b4, b5, wordOf, swappedOf, number, bytes, sign, mantissa, fullOf, low, complementOf, shortMagnitude, halves, storedOver, passesZeroTest}
 
 pub record Bytes (x : Number) : Type 0 where
   pub b1< : x .b1 < 256
@@ -54,15 +54,34 @@ swapped-halves b h p q =
     let is : b + h * 256 ≡ wordOf 0 (h / 256) (h % 256) b = omega arith in
     ap swappedOf is ∙ swapped-word b (h % 256) (h / 256) 0 p (omega arith) (omega arith) (omega arith)
 
--- what is written as a low half is read as one
-pub low-halves : (b h : ℕ) → h < 2 ^ 16 → low (halves b h) ≡ h
-low-halves b h g =
+-- what is written as a sign byte and a low half is read as them
+pub halves-bytes : (b h : ℕ) → h < 2 ^ 16 → (b2 (halves b h) ≡ b) × (b3 (halves b h) ≡ h % 256) × (b4 (halves b h) ≡ h / 256)
+halves-bytes b h g =
     let w = halves b h .word in
     let one : w / 2 ^ 8 ≡ b * 2 ^ 16 + h % 256 * 2 ^ 8 + h / 256 = omega arith in
-    let two : w / 2 ^ 16 ≡ b * 2 ^ 8 + h % 256 = places w .0 ∙ ap (λ (k : ℕ). k / 2 ^ 8) one ∙ omega arith in
-    let high : w / 2 ^ 8 % 256 ≡ h / 256 = ap (λ (k : ℕ). k % 256) one ∙ omega arith in
-    let lowest : w / 2 ^ 16 % 256 ≡ h % 256 = ap (λ (k : ℕ). k % 256) two ∙ omega arith in
-    ap₂ (λ (i j : ℕ). 256 * i + j) high lowest ∙ omega arith
+    let two : w / 2 ^ 16 ≡ b * 2 ^ 8 + h % 256 = places w .0 ∙ ap (λ (k : ℕ). k / 2 ^ 8) one ∙ omega arith in (
+      places w .1 ∙ ap (λ (k : ℕ). k / 2 ^ 8) two ∙ omega arith,
+      ap (λ (k : ℕ). k % 256) two ∙ omega arith,
+      ap (λ (k : ℕ). k % 256) one ∙ omega arith,
+    )
+
+pub low-halves : (b h : ℕ) → h < 2 ^ 16 → low (halves b h) ≡ h
+low-halves b h g = let are = halves-bytes b h g in ap₂ (λ (i j : ℕ). 256 * i + j) (are .2) (are .1) ∙ omega arith
+
+-- stored over x, which may have the same b1 and b5 already
+pub over-halves : (x : Number) (b h : ℕ) → h < 2 ^ 16 → storedOver x (halves b h) ≡ bytes (x .b1) b (h % 256) (h / 256) (b5 x)
+over-halves x b h g =
+    let are = halves-bytes b h g in
+    ap (number (x .b1)) (ap₂ (λ (i j : ℕ). wordOf i j (b4 (halves b h)) (b5 x)) (are .0) (are .1) ∙ ap (λ (k : ℕ). wordOf b (h % 256) k (b5 x)) (are .2))
+
+pub over-parts : (x n : Number) → storedOver x (halves (b2 n) (low n)) ≡ storedOver x n
+over-parts x n =
+    let third : low n % 256 ≡ b3 n = omega arith in
+    let fourth : low n / 256 ≡ b4 n = omega arith in
+    over-halves x (b2 n) (low n) (omega arith) ∙ ap₂ (λ (i j : ℕ). bytes (x .b1) (b2 n) i j (b5 x)) third fourth
+
+pub over-same : (x n : Number) → x .b1 ≡ n .b1 → b5 x ≡ b5 n → storedOver x n ≡ n
+over-same x n e f = ap₂ (λ (b k : ℕ). bytes b (b2 n) (b3 n) (b4 n) k) e f ∙ ap (number (n .b1)) (word-of n)
 
 -- how far a short number is from zero, by its sign
 pub magnitude-cases : (x : Number) → Bytes x → ((sign x ≡ 0) × (shortMagnitude x ≡ low x)) ⊎ ((sign x ≡ 1) × (shortMagnitude x ≡ complementOf (low x)))

@@ -5,10 +5,10 @@ use mathlib.Core.List.{List, [], _∷_, _++_, append-assoc}
 use native.Mathlib.Omega.{arith}
 use native.Mathlib.Numerals.{towards-suc, add-five}
 use lib.ListN.{length, set, getD, take, drop, take-append-drop, length-append, length-take, length-drop}
-use lib.Seq.{set-getD, set-comm, sets-eq, drop-cons, drop-drop, take-all}
+use lib.Seq.{set-getD, set-comm, sets-eq, getD-set-other, drop-cons, drop-drop, take-all}
 use Rattle.number.specs.declared.Number.{Number}
-use Rattle.number.specs.Number.{number, b2, low, wordOf, swappedOf}
-use Rattle.number.specs.NumberLaws.{word-bytes, swapped-word}
+use Rattle.number.specs.Number.{b2, low, wordOf, swappedOf, bytes, halves, storedOver}
+use Rattle.number.specs.NumberLaws.{word-bytes, swapped-word, over-halves}
 use Rattle.slots.specs.Slots.{slot, numberIn, bytesOf, putSlot, putIn}
 
 -- b2 to b5 of slot i with the low byte first, as the machine holds a word, read and written
@@ -65,12 +65,27 @@ module _ (s : List ℕ) (i : ℕ) (h : 5 * i + 5 ≤ length s) where
   pub put-swapped : (n : Number) → n .word < 2 ^ 32 → set (putFour s i (swappedOf (n .word))) (5 * i) (n .b1) ≡ putIn s i n
   put-swapped n h = first-last (n .b1) _ _ _ _ ∙ ap (putSlot s i) (swapped-bytes n h)
 
-  -- with the first byte left as it is
-  pub put-word : (w : ℕ) → w < 2 ^ 32 → putFour s i (swappedOf w) ≡ putIn s i (number (numberIn s i .b1) w)
-  unfolding numberIn
-  put-word w h =
-      let b = getD s (5 * i) 0 in
-      ap (λ (t : List ℕ). putFour t i (swappedOf w)) (sym (set-getD s (5 * i) 0)) ∙ five-stores b _ _ _ _ ∙ ap (putSlot s i) (swapped-bytes (number b w) h)
+  -- a short number's sign byte and low half, with the first byte and the last left as they are
+  pub put-halves : ((k : ℕ) → getD s k 0 < 256) → (b h : ℕ) → b < 256 → h < 2 ^ 16
+      → set (set (set s (5 * i + 1) b) (5 * i + 2) (h % 256)) (5 * i + 3) (h / 256) ≡ putIn s i (storedOver (numberIn s i) (halves b h))
+  unfolding numberIn bytesOf
+  put-halves k b h p q =
+      let at = 5 * i in
+      let x = numberIn s i in
+      let first = getD s at 0 in
+      let last = getD s (at + 4) 0 in
+      let t = set (set (set s (at + 1) b) (at + 2) (h % 256)) (at + 3) (h / 256) in
+      let n1 : at + 4 ≡ at + 1 → ⊥ = λ e. omega arith in
+      let n2 : at + 4 ≡ at + 2 → ⊥ = λ e. omega arith in
+      let n3 : at + 4 ≡ at + 3 → ⊥ = λ e. omega arith in
+      let kept : getD t (at + 4) 0 ≡ last = simp getD-set-other in
+      let own = word-bytes _ _ _ _ (k (at + 1)) (k (at + 2)) (k (at + 3)) (k (at + 4)) .3 in
+      let are = word-bytes b (h % 256) (h / 256) last p (omega arith) (omega arith) (k (at + 4)) in
+      sym (set-getD t (at + 4) 0)
+      ∙ ap (λ (v : ℕ). set t (at + 4) v) kept
+      ∙ ap (λ (u : List ℕ). set (set (set (set u (at + 1) b) (at + 2) (h % 256)) (at + 3) (h / 256)) (at + 4) last) (sym (set-getD s at 0))
+      ∙ five-stores first b (h % 256) (h / 256) last
+      ∙ ap (putSlot s i) (sym (ap bytesOf (over-halves x b h q ∙ ap (bytes first b (h % 256) (h / 256)) own) ∙ rw (are .0, are .1, are .2, are .3) refl))
 
   pub slot-five : slot s i ≡ fiveAt s (5 * i)
   unfolding slot

@@ -6,7 +6,7 @@ use number::Number;
 ghost use mathlib.Core.Path.{_≡_};
 ghost use Prim.Native.Nat.{_+_, _*_, _≤_};
 ghost use lib.ListN.{length};
-ghost use Rattle.number.specs.Number.{number as numberOf, b2, low, malformed, swappedOf};
+ghost use Rattle.number.specs.Number.{number as numberOf, b2, low, malformed, halves, storedOver, swappedOf};
 ghost use Rattle.slots.specs.Slots.{putIn};
 ghost use Rattle.slots.specs.SlotLaws.{fourIn, putFour};
 ghost use Rattle.slots.specs.Reach.{numberAt, putAt};
@@ -117,15 +117,18 @@ pub fn put_at(stack: &mut [u8], depth: usize, above: u8, b1: u8, word: u32)
     put_in(stack, depth - nth, Number { b1, word });
 }
 
-// With its b1 as it is.
-pub fn put_word_at(stack: &mut [u8], depth: usize, above: u8, word: u32)
-    ensures { λ _. ⌜ now (stack .exit) ≡ putAt (now (stack .entry)) depth above (numberOf (numberAt (now (stack .entry)) depth above .b1) word) ⌝ }
+// A short number's sign byte and low half. b1 and b5 stay.
+pub fn put_halves_at(stack: &mut [u8], depth: usize, above: u8, byte: u8, h: u16)
+    ensures { λ _. ⌜ now (stack .exit) ≡ putAt (now (stack .entry)) depth above (storedOver (numberAt (now (stack .entry)) depth above) (halves byte h)) ⌝ }
 {
     let nth = above as usize + 1;
     if lacks(stack, depth, nth) {
         return;
     }
-    put_four(stack, depth - nth, number::swapped(word));
+    let at = 5 * (depth - nth);
+    stack[at + 1] = byte;
+    stack[at + 2] = (h % 256) as u8;
+    stack[at + 3] = (h / 256) as u8;
 }
 
 // The same of the top alone, for a caller that has asked `lacks_top`: its b1, its b2 to b5 as they lie, and a number put there.

@@ -9,7 +9,7 @@ use native.Mathlib.Omega.{arith}
 use lib.IntN.{ℤ, pos, negℤ, _+ℤ_, +ℤ-comm}
 use Rattle.number.specs.declared.Number.{Number}
 use Rattle.number.specs.Number.{formOf, zeros, bytes, sign, mantissa, fullOf, low, complementOf, halves, shortOf, shortMagnitude, passesZeroTest}
-use Rattle.number.specs.NumberLaws.{Bytes, mantissa-full, sign-full, low-halves, zero-passes, full-fails}
+use Rattle.number.specs.NumberLaws.{Bytes, mantissa-full, sign-full, low-halves, over-same, zero-passes, full-fails}
 use Rattle.number.specs.Value.{signed, shortValue}
 use Rattle.number.specs.Restack.{fullOfShort, restacked}
 use Rattle.number.specs.RestackLaws.{restack-full, restack-some}
@@ -155,7 +155,7 @@ module _ (x : Number) (b : Bytes x) (s : sign x ≡ 1) (f : 0 < x .b1) where
           let c = complementOf v in
           let less : c - 1 ≡ 65535 - v = omega arith in
           (rw (low-halves 255 c (omega arith)) at (less-one (halves 255 c) refl (negative c (omega arith) .0))) (omega arith)
-          ∙ ap (λ (n : ℕ). Done (halves 255 n)) less
+          ∙ ap Done (over-same (halves 255 c) (halves 255 (c - 1)) refl (omega arith) ∙ ap (halves 255) less)
 
   pub cut-full : 145 ≤ x .b1 → x .b1 < 160 → taken65536 x ≡ false → Cut (record { b1 = x .b1; word = cleared k (x .word) })
   cut-full h g t =

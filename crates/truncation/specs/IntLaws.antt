@@ -7,7 +7,7 @@ use borrow.Author.Tests.{eq-eqb, ne-eqb}
 use native.Mathlib.Omega.{arith}
 use lib.Count.{leadingZeros}
 use Rattle.number.specs.declared.Number.{Number}
-use Rattle.number.specs.Number.{formOf, zeros, sign, low, complementOf, fullOf, halves, shortOf, shortMagnitude, passesZeroTest}
+use Rattle.number.specs.Number.{formOf, zeros, sign, low, complementOf, fullOf, halves, storedOver, shortOf, shortMagnitude, passesZeroTest}
 use Rattle.number.specs.declared.form.Form.the-variants.{Short}
 use Rattle.number.specs.FormLaws.{FormBytes, form-bytes}
 use Rattle.number.specs.NumberLaws.{places, Bytes, low-halves, zero-passes, some-fails}
@@ -60,13 +60,13 @@ module _ (t : Number) (h : t .b1 ≡ 0) (s : sign t ≡ 1) where
   two-negative : negatives t other ≡ 2
   two-negative = ap (λ (n : ℕ). n + 1) s
 
-  pub less-one : 0 < low t → differenceOf t shortOne ≡ Done (halves 255 (low t - 1))
+  pub less-one : 0 < low t → differenceOf t shortOne ≡ Done (storedOver t (halves 255 (low t - 1)))
   unfolding differenceOf
   less-one p =
       let carry : carryOf (wrapped t other) (low t) ≡ 1 = carries (low t) 65535 (omega arith) (omega arith) (omega arith) in
       ap (sumOf t) one-negated
       ∙ sum-negative t other h refl (ap (λ (n : ℕ). n + 1) carry ∙ sym two-negative)
-      ∙ ap (λ (n : ℕ). Done (halves 255 n)) (one-lower (low t) p (omega arith))
+      ∙ ap (λ (n : ℕ). Done (storedOver t (halves 255 n))) (one-lower (low t) p (omega arith))
 
   -- the sum would be -65,537, and on the full route odd counts as zero
   pub odd-less-one : low t ≡ 0 → differenceOf t shortOne ≡ Done minusOne
@@ -110,11 +110,11 @@ module _ (x : Number) (b : Bytes x) (h : x .b1 ≡ 0) (s : sign x ≡ 1) where
       let carry : carryOf (wrapped x opposite) (low x) ≡ 1 =
       ap (λ (k : ℕ). carryOf ((low x + k) % 2 ^ 16) (low x)) low-opposite ∙ carries (low x) (complementOf (low x)) (omega arith) (omega arith) (past (low x) p) in
       let none : wrapped x opposite ≡ 0 = ap (λ (k : ℕ). (low x + k) % 2 ^ 16) low-opposite ∙ back (low x) p (omega arith) in
-      int-whole x x zeros s (truncate-not-full x h)
+      int-whole x x (storedOver x zeros) s (truncate-not-full x h)
       (ap (sumOf x) minus
       ∙ sum-positive x opposite h refl (carry ∙ sym one-negative)
-      ∙ ap (λ (n : ℕ). Done (halves 0 n)) none)
-      (zero-passes zeros refl (omega arith))
+      ∙ ap (λ (n : ℕ). Done (storedOver x (halves 0 n))) none)
+      (zero-passes (storedOver x zeros) h (omega arith))
     where
       past : (l : ℕ) → 0 < l → 2 ^ 16 ≤ l + complementOf l
       past l g = omega arith
@@ -126,11 +126,11 @@ module _ (x : Number) (b : Bytes x) (h : x .b1 ≡ 0) (s : sign x ≡ 1) where
       let o : low opposite ≡ 0 = low-opposite ∙ ap complementOf z in
       let none : wrapped x opposite ≡ 0 = ap₂ (λ (l k : ℕ). (l + k) % 2 ^ 16) z o in
       let carry : carryOf (wrapped x opposite) (low x) ≡ 0 = ap₂ carryOf none z in
-      int-part x x (halves 255 0) s (truncate-not-full x h)
+      int-part x x (storedOver x (halves 255 0)) s (truncate-not-full x h)
       (ap (sumOf x) minus
       ∙ sum-negative x opposite h refl (ap (λ (n : ℕ). n + 1) carry ∙ sym one-negative)
-      ∙ ap (λ (n : ℕ). Done (halves 255 n)) none)
-      (some-fails (halves 255 0) refl (omega arith))
+      ∙ ap (λ (n : ℕ). Done (storedOver x (halves 255 n))) none)
+      (some-fails (storedOver x (halves 255 0)) h (omega arith))
       ∙ odd-less-one x h s z
 
 -- a short number is whole

@@ -5,7 +5,7 @@ use mathlib.Core.Path.{_≡_, sym, _∙_, ap, ap₂, subst}
 use mathlib.Core.Bool.{false, _||_}
 use native.Mathlib.Omega.{arith}
 use Rattle.number.specs.declared.Number.{Number}
-use Rattle.number.specs.Number.{number, malformed, low, halves}
+use Rattle.number.specs.Number.{number, malformed, low}
 use Rattle.addition.specs.declared.short.Short.the-variants.{Stored}
 use Rattle.addition.specs.declared.short.Halves.{Halves}
 use Rattle.addition.specs.Addition.{shortSum, secondOf}
@@ -74,14 +74,13 @@ short-sum-spec =
     (λ c κs. tt)
     (λ c κs. tt)
     (λ c κs. tt)
-    (λ c κs. tt)
     (λ c.
-    let d = c .before .before .before in
+    let d = c .before .before in
     let s = d .before .before .before .before in
     let k = d .wrapping-add-u82 .result in
     let l = split s in
-    ap Stored (c .halves-word .ensures ∙ ap (λ (h : ℕ). halves k h .word) (summed (d .before .before .before)))
-    ∙ sym (told-stored (x s) (y s) _ _ k (first-formed (s .before .before .before .before .before) .1) (l .bytes) (omega arith) (l .sign<) (settled d) (stays _ _ (c .before .before .wrapping-add-u83 .ensures) (c .before .if3 .taken)))
+    ap (Stored k) (summed (d .before .before .before))
+    ∙ sym (told-stored (x s) (y s) _ _ k (first-formed (s .before .before .before .before .before) .1) (l .bytes) (omega arith) (l .sign<) (settled d) (stays _ _ (c .before .wrapping-add-u83 .ensures) (c .if3 .taken)))
     ∙ sym (told-of s))
     (λ c.
     let d = c .before .before in

@@ -6,7 +6,6 @@ use mathlib.Core.Bool.{false}
 use mathlib.Core.List.{List}
 use native.Mathlib.Omega.{arith}
 use denote.Ref.{now}
-use Rattle.number.specs.Number.{number}
 use Rattle.addition.specs.declared.short.Short.{Short}
 use Rattle.slots.specs.Reach.{lacking, refusalOf, numberAt, putAt}
 use Rattle.slots.specs.ReachLaws.{has}
@@ -50,7 +49,7 @@ returns-3 c =
     let l = flips (i .args .flip) in
     let t = said r _ (k .short .given .1) in
     let after : d - 1 ≡ d - i .args .taken + i .args .left = omega (arith, i .pre, has _ _ _ (there (r .before .before))) in
-    two-done _ _ _ (totalOf l) (sum-line l) (there (r .before .before)) (t .0) _ (t .1) ∙ ap₂ (λ (e : ℕ) (u : List ℕ). (outcome 0 e, u)) after (sym (p .put-word-at .ensures))
+    two-done _ _ _ (totalOf l) (sum-line l) (there (r .before .before)) (t .0) _ (t .1) ∙ ap₂ (λ (e : ℕ) (u : List ℕ). (outcome 0 e, u)) after (sym (p .put-halves-at .ensures))
 
 pub sum-spec : {M : Type 1} → statement M
 sum-spec =
