@@ -1,5 +1,6 @@
 pub mod SlotFacts
 pub mod Accepted
+pub mod Table
 pub mod Counts
 pub mod Bytes
 pub mod Agreement
