@@ -5,6 +5,7 @@ pub mod Counts
 pub mod Bytes
 pub mod Agreement
 pub mod Independence
+pub mod Alike
 pub mod Demand1
 pub mod Demand2
 pub mod Demand2Reads
