@@ -1,25 +1,30 @@
--- Two stacks of one length that agree below a depth: what is read below it is the same, and what is put is.
-use Prim.Native.Nat.{ℕ, _+_, _*_, _/_, _≤_, _<_}
-use mathlib.Core.Path.{_≡_, refl, sym, _∙_, ap}
+-- Two stacks of one length whose slots below a depth are related: what holds of both, and what putting related bytes into a slot of each leaves.
+use Prim.Native.Nat.{ℕ, _+_, _*_, _≤_, _<_}
+use mathlib.Core.Path.{_≡_, refl, sym, _∙_}
 use mathlib.Core.Bool.{Bool, true, false}
 use mathlib.Core.List.{List}
 use native.Mathlib.Omega.{arith}
 use lib.Dec.{eqb}
-use lib.ListN.{length, getD}
+use lib.ListN.{length}
 use borrow.Author.Tests.{eqb-true, eqb-false}
-use Rattle.ending.specs.declared.answer.Answer.{Answer}
-use Rattle.ending.specs.declared.answer.Answer.the-variants.{Done, TooBig}
-use Rattle.slots.specs.Slots.{slot, numberIn, bytesOf, putSlot}
+use Rattle.number.specs.declared.Number.{Number}
+use Rattle.slots.specs.Slots.{slot, numberIn, putSlot}
 use Rattle.slots.specs.SlotLaws.{length-putSlot}
 use Rattle.slots.specs.Reports.{overLimits, noRoom}
-use Rattle.literals.specs.Operate.{stored}
-use Rattle.demands.specs.SlotFacts.{number-slot, same-slot, put-inside, put-elsewhere}
+use Rattle.demands.specs.SlotFacts.{length-slot, number-slot, put-slot, put-other}
 
-pub record Agree (d : ℕ) (s s′ : List ℕ) : Type 0 where
+-- R relates the bytes of two slots, one of each stack
+pub record Agree (R : List ℕ → List ℕ → Type 0) (d : ℕ) (s s′ : List ℕ) : Type 0 where
   pub long : length s ≡ length s′
-  pub below : (k : ℕ) → k < 5 * d → getD s k 0 ≡ getD s′ k 0
+  pub below : (i : ℕ) → i < d → R (slot s i) (slot s′ i)
 
-module _ (d : ℕ) (s s′ : List ℕ) (a : Agree d s s′) where
+-- five bytes to put into a slot of each
+pub record Fives (R : List ℕ → List ℕ → Type 0) (p p′ : List ℕ) : Type 0 where
+  pub long : length p ≡ 5
+  pub long′ : length p′ ≡ 5
+  pub related : R p p′
+
+module _ {R : List ℕ → List ℕ → Type 0} (d : ℕ) (s s′ : List ℕ) (a : Agree R d s s′) where
   pub limits-agree : overLimits s d ≡ overLimits s′ d
   unfolding overLimits
   limits-agree = simp (a .long)
@@ -28,50 +33,39 @@ module _ (d : ℕ) (s s′ : List ℕ) (a : Agree d s s′) where
   unfolding noRoom
   room-agrees = simp (a .long)
 
-  module _ (deep : 5 * d ≤ length s) (i : ℕ) (h : i < d) where
-    pub slot-agrees : slot s i ≡ slot s′ i
-    slot-agrees = same-slot s i (omega arith) s′ (omega (arith, a .long)) (λ k e. a .below k (omega arith))
+  -- they agree below any lesser depth
+  pub lesser : (e : ℕ) → e ≤ d → Agree R e s s′
+  lesser e h = record { long = a .long; below = λ i g. a .below i (omega arith) }
 
-    pub number-agrees : numberIn s i ≡ numberIn s′ i
-    number-agrees =
-        number-slot s i (omega arith)
-        ∙ ap (λ (five : List ℕ). numberIn five 0) slot-agrees
-        ∙ sym (number-slot s′ i (omega (arith, a .long)))
+  -- what holds of the numbers in related bytes holds of the numbers in the slots
+  pub of-numbers : (P : Number → Number → Type 0) → ((p p′ : List ℕ) → R p p′ → P (numberIn p 0) (numberIn p′ 0)) → (i : ℕ) → i < d → P (numberIn s i) (numberIn s′ i)
+  of-numbers P law i h = rw (number-slot s i, number-slot s′ i) (law (slot s i) (slot s′ i) (a .below i h))
 
--- Five bytes put into one slot of both: they agree below e, if every byte below e is in the slot or below the old depth.
-module _ (d : ℕ) (s s′ : List ℕ) (a : Agree d s s′) (i : ℕ) (five : List ℕ) (f : length five ≡ 5) (room : 5 * i + 5 ≤ length s) where
-  room′ : 5 * i + 5 ≤ length s′
-  room′ = omega (arith, a .long)
+  pub slots-agree : 5 * d ≤ length s → (i : ℕ) → i < d → Fives R (slot s i) (slot s′ i)
+  slots-agree deep i h = record { long = length-slot s i (omega arith); long′ = length-slot s′ i (omega (arith, a .long)); related = a .below i h }
 
-  byte-agrees : (k : ℕ) → ((k / 5 ≡ i → ⊥) → k < 5 * d) → (b : Bool) → eqb (k / 5) i ≡ b
-      → getD (putSlot s i five) k 0 ≡ getD (putSlot s′ i five) k 0
-  byte-agrees k r true p = let e = eqb-true (k / 5) i p in put-inside s i room five f k e ∙ sym (put-inside s′ i room′ five f k e)
-  byte-agrees k r false p =
-      let n = eqb-false (k / 5) i p in
-      let o : 5 * i ≤ k → k < 5 * i + 5 → ⊥ = λ g g′. omega arith in
-      put-elsewhere s i room five f k o ∙ a .below k (r n) ∙ sym (put-elsewhere s′ i room′ five f k o)
+  module _ (i : ℕ) {p p′ : List ℕ} (v : Fives R p p′) (room : 5 * i + 5 ≤ length s) where
+    room′ : 5 * i + 5 ≤ length s′
+    room′ = omega (arith, a .long)
 
-  pub put-agrees : (e : ℕ) → ((k : ℕ) → k < 5 * e → (k / 5 ≡ i → ⊥) → k < 5 * d) → Agree e (putSlot s i five) (putSlot s′ i five)
-  put-agrees e r =
-      record {
-        long = length-putSlot s i room five f ∙ a .long ∙ sym (length-putSlot s′ i room′ five f);
-        below = λ k h. byte-agrees k (r k h) (eqb (k / 5) i) refl;
-      }
+    slot-after : (j : ℕ) → ((j ≡ i → ⊥) → j < d) → (b : Bool) → eqb j i ≡ b → R (slot (putSlot s i p) j) (slot (putSlot s′ i p′) j)
+    slot-after j o true e = rw (eqb-true j i e, put-slot s i room p (v .long), put-slot s′ i room′ p′ (v .long′)) (v .related)
+    slot-after j o false e =
+        let n = eqb-false j i e in
+        rw (put-other s i room p (v .long) j n, put-other s′ i room′ p′ (v .long′) j n) (a .below j (o n))
 
-module _ (d : ℕ) (s s′ : List ℕ) (a : Agree d s s′) where
-  -- into a slot below the depth
-  pub put-below : (i : ℕ) (five : List ℕ) → length five ≡ 5 → 5 * i + 5 ≤ length s → Agree d (putSlot s i five) (putSlot s′ i five)
-  put-below i five f room = put-agrees d s s′ a i five f room d (λ k h o. h)
+    -- they agree below e, if every slot below e is the one put or below the old depth
+    put-agrees : (e : ℕ) → ((j : ℕ) → j < e → (j ≡ i → ⊥) → j < d) → Agree R e (putSlot s i p) (putSlot s′ i p′)
+    put-agrees e o =
+        record {
+          long = length-putSlot s i room p (v .long) ∙ a .long ∙ sym (length-putSlot s′ i room′ p′ (v .long′));
+          below = λ j h. slot-after j (o j h) (eqb j i) refl;
+        }
+
+    -- into a slot below the depth
+    pub put-below : Agree R d (putSlot s i p) (putSlot s′ i p′)
+    put-below = put-agrees d (λ j h o. h)
 
   -- into the slot at the depth, which then is below the next one
-  pub put-at : (five : List ℕ) → length five ≡ 5 → 5 * d + 5 ≤ length s → Agree (d + 1) (putSlot s d five) (putSlot s′ d five)
-  put-at five f room = put-agrees d s s′ a d five f room (d + 1) (λ k h o. omega arith)
-
-  -- they agree below any lesser depth
-  pub lesser : (e : ℕ) → e ≤ d → Agree e s s′
-  lesser e h = record { long = a .long; below = λ k g. a .below k (omega arith) }
-
-  pub stored-agrees : (i : ℕ) (v : Answer) → 5 * i + 5 ≤ length s → Agree d (stored s i v) (stored s′ i v)
-  unfolding stored bytesOf
-  stored-agrees i (Done n) room = put-below i (bytesOf n) refl room
-  stored-agrees i TooBig room = a
+  pub put-at : {p p′ : List ℕ} → Fives R p p′ → 5 * d + 5 ≤ length s → Agree R (d + 1) (putSlot s d p) (putSlot s′ d p′)
+  put-at v room = put-agrees d v room (d + 1) (λ j h o. omega arith)

@@ -36,7 +36,7 @@ answered s d l f o p n e =
     record {
       report = operation-report s d l ∙ ok;
       depth = new-depth s d l ok ∙ omega arith;
-      there = number-there (operateOf s d l .1) (d - 2) (omega (arith, a .2 .long)) (a .0) (a .2 .there) ∙ same;
+      there = number-there (operateOf s d l .1) (d - 2) (a .0) (a .2 .there) ∙ same;
       long = a .2 .long;
       elsewhere = a .2 .elsewhere;
     }

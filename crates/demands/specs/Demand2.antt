@@ -93,8 +93,7 @@ module _ (s : List ℕ) (d l : ℕ) (ok : reportOf s d l ≡ 0) where
       rw q (
         p₂ .long ∙ p₁ .long,
         p₂ .there,
-        same-slot s₂ (d - 2) (omega (arith, p₁ .long, p₂ .long)) s₁ (omega (arith, p₁ .long)) (λ k h. p₂ .elsewhere k (λ g g′. omega arith))
-            ∙ p₁ .there,
+        same-slot s₂ s₁ (d - 2) (p₂ .long) (λ k h. p₂ .elsewhere k (λ g g′. omega arith)) ∙ p₁ .there,
         (λ k o. p₂ .elsewhere k (λ g g′. o (omega arith) (omega arith)) ∙ p₁ .elsewhere k (λ g g′. o (omega arith) (omega arith))),
       )
 

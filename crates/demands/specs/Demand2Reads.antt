@@ -1,112 +1,69 @@
 -- Demand 2, what is not read: "No report, depth, view, cell or slot below the new depth depends on bytes at or above the old depth."
--- Said of two stacks of one length that agree below the depth: every call answers the same, a run's position among it, and leaves
--- stacks that agree below the new depth.
-use Prim.Native.Nat.{ℕ, zero, suc, _+_, _-_}
-use mathlib.Core.Path.{_≡_, refl, ap}
-use mathlib.Core.Bool.{Bool, true, false, cond, not, _||_}
-use mathlib.Core.List.{List, [], _∷_}
+-- Said of two stacks of one length that agree below the depth, every slot there having the same bytes: every call answers the same, a run's position
+-- among it, and leaves stacks that agree below the new depth.
+use Prim.Native.Nat.{ℕ, _-_, _*_, _/_, _%_, _<_}
+use mathlib.Core.Path.{_≡_, refl, sym, _∙_, ap, ap₂}
+use mathlib.Core.Logic.{_↔_}
+use mathlib.Core.Bool.{_||_}
+use mathlib.Core.List.{List}
 use native.Mathlib.Omega.{arith}
-use lib.Dec.{ltb, eqb}
-use borrow.Author.Tests.{ltb-false, eqb-false}
-use Rattle.slots.specs.declared.outcome.Outcome.{Outcome}
-use Rattle.calculator.specs.declared.outcome.RunOutcome.{RunOutcome}
-use Rattle.slots.specs.Slots.{putSlot}
-use Rattle.slots.specs.Reports.{overLimits, pushReport}
-use Rattle.slots.specs.LimitLaws.{within-of}
-use Rattle.slots.specs.Push.{settled, pushOf}
+use lib.Dec.{eqb}
+use lib.ListN.{length, getD}
+use borrow.Author.Tests.{eqb-false}
+use Rattle.number.specs.Number.{malformed}
+use Rattle.slots.specs.Slots.{numberIn}
+use Rattle.slots.specs.Reports.{overLimits}
+use Rattle.slots.specs.Push.{pushOf}
 use Rattle.slots.specs.View.{viewOf}
-use Rattle.literals.specs.Literals.{operationOf, takes, leaves}
-use Rattle.literals.specs.Reports.{tooManyLiterals, notInTable, reportOf}
-use Rattle.literals.specs.Operate.{bytesAfter, operateOf}
-use Rattle.calculator.specs.Run.{goOn, runOf}
+use Rattle.literals.specs.Literals.{Operation, exchange, delete, duplicate, one, two, unknown, operationOf}
+use Rattle.literals.specs.Operate.{operateOf}
+use Rattle.calculator.specs.Run.{runOf}
 use Rattle.display.specs.Cell.{numberShown, cellOf}
-use Rattle.demands.specs.Accepted.{accepted, within, pushable, fits}
-use Rattle.demands.specs.Counts.{takes-are, leaves-are}
-use Rattle.demands.specs.Agreement.{Agree, limits-agree, room-agrees, number-agrees, slot-agrees, put-at}
-use Rattle.demands.specs.Independence.{rows-same, bytes-agree}
+use Rattle.demands.specs.SlotFacts.{byte-in-slot, same-slot}
+use Rattle.demands.specs.Agreement.{Agree, limits-agree}
+use Rattle.demands.specs.Independence.{Kept, Carried, answers-same}
+use Rattle.demands.specs.Alike.{Alike, RunsAlike, choice, neither, related-operations, related-pushes, related-runs, related-cells}
 
--- both answer the same, and what they leave agrees below the new depth
-pub record Alike (x x′ : Outcome × List ℕ) : Type 0 where
-  pub answers : x .0 ≡ x′ .0
-  pub leave : Agree (x .0 .depth) (x .1) (x′ .1)
+-- They agree exactly when they have one length and the same bytes below the depth.
+pub same-below : (d : ℕ) (s s′ : List ℕ) → Agree _≡_ d s s′ ↔ ((length s ≡ length s′) × ((k : ℕ) → k < 5 * d → getD s k 0 ≡ getD s′ k 0))
+same-below d s s′ = (
+  (λ a. (a .long, λ k h. byte-in-slot s k ∙ ap (λ (p : List ℕ). getD p (k % 5) 0) (a .below (k / 5) (omega arith)) ∙ sym (byte-in-slot s′ k))),
+  (λ b. record { long = b .0; below = λ i h. same-slot s s′ i (b .0) (λ k g. b .1 k (omega arith)) }),
+)
 
-pub record RunsAlike (x x′ : RunOutcome × List ℕ) : Type 0 where
-  pub answers : x .0 ≡ x′ .0
-  pub leave : Agree (x .0 .depth) (x .1) (x′ .1)
+-- any operation gives the same of the same bytes
+kept : (o : Operation) → Kept _≡_ o
+kept (one f) = λ p p′ e. answers-same (λ n. refl) _ _ (ap (λ (r : List ℕ). f (numberIn r 0)) e)
+kept (two f) = λ p p′ q q′ e g. answers-same (λ n. refl) _ _ (ap₂ (λ (r t : List ℕ). f (numberIn r 0) (numberIn t 0)) e g)
+kept exchange = tt
+kept delete = tt
+kept duplicate = tt
+kept unknown = tt
 
--- two choices by one test are related if each of their ways is
-pub choice : {A : Type 0} (R : A → A → Type 0) (b : Bool) {x x′ y y′ : A} → (b ≡ true → R x x′) → (b ≡ false → R y y′) → R (cond b x y) (cond b x′ y′)
-choice R true h k = h refl
-choice R false h k = k refl
+carried : Carried _≡_
+carried =
+    record {
+      same = λ p. refl;
+      forms = λ p p′ e. ap (λ (q : List ℕ). malformed (numberIn q 0)) e;
+      cells = λ p p′ e. ap (λ (q : List ℕ). numberShown (numberIn q 0)) e;
+      operations = λ l. kept (operationOf l);
+    }
 
-pub neither : (b c : Bool) → b || c ≡ false → (b ≡ false) × (c ≡ false)
-neither true c e = absurd (let z : _≡_ {A = ℕ} 0 1 = cc in omega arith)
-neither false c e = (refl, e)
+module _ (d : ℕ) (s s′ : List ℕ) (a : Agree _≡_ d s s′) where
+  pub operations-alike : (l : ℕ) → Alike _≡_ (operateOf s d l) (operateOf s′ d l)
+  operations-alike = related-operations carried d s s′ a
 
-module _ (d : ℕ) (s s′ : List ℕ) (a : Agree d s s′) where
-  report-same : (l : ℕ) → reportOf s d l ≡ reportOf s′ d l
-  unfolding reportOf
-  report-same l =
+  pub pushes-alike : (p : List ℕ) → Alike _≡_ (pushOf s d p) (pushOf s′ d p)
+  pushes-alike = related-pushes carried d s s′ a
+
+  pub runs-alike : (ls : List ℕ) → RunsAlike _≡_ (runOf s d ls) (runOf s′ d ls)
+  runs-alike = related-runs carried d s s′ a
+
+  pub views-same : viewOf s d ≡ viewOf s′ d
+  unfolding viewOf
+  views-same =
       rw (← limits-agree d s s′ a)
-      (choice _≡_ (overLimits s d) (λ e. refl) (λ e.
-      choice _≡_ (notInTable (operationOf l)) (λ u. refl) (λ u.
-      choice _≡_ (ltb d (takes l)) (λ f. refl) (λ f.
-      let r = rows-same d s s′ a (within-of s d e .deep) (operationOf l) (omega (arith, takes-are l, ltb-false d (takes l) f)) in
-      simp (r .0, r .1, r .2)))))
+      (choice _≡_ (overLimits s d || eqb d 0) (λ e. refl) (λ e. a .below (d - 1) (omega (arith, eqb-false d 0 (neither (overLimits s d) _ e .1)))))
 
-  settled-alike : (r e : ℕ) (t t′ : List ℕ) → (r ≡ 0 → Agree e t t′) → Alike (settled r d s e t) (settled r d s′ e t′)
-  unfolding settled
-  settled-alike zero e t t′ h = record { answers = refl; leave = h refl }
-  settled-alike (suc k) e t t′ h = record { answers = refl; leave = a }
-
-  pub operations-alike : (l : ℕ) → Alike (operateOf s d l) (operateOf s′ d l)
-  unfolding operateOf
-  operations-alike l =
-      rw (← report-same l)
-      (settled-alike (reportOf s d l) (d - takes l + leaves l) (bytesAfter (operationOf l) s d) (bytesAfter (operationOf l) s′ d)
-      (λ ok.
-      let y = accepted s d l .0 ok .0 in
-      let w = within s d l y in
-      rw (takes-are l, leaves-are l) (bytes-agree d s s′ a (w .1) (operationOf l) (omega (arith, takes-are l)) (y .room))))
-
-  push-report-same : (p : List ℕ) → pushReport s d p ≡ pushReport s′ d p
-  unfolding pushReport
-  push-report-same p = simp (limits-agree d s s′ a, room-agrees d s s′ a)
-
-  pub pushes-alike : (p : List ℕ) → Alike (pushOf s d p) (pushOf s′ d p)
-  unfolding pushOf
-  pushes-alike p =
-      rw (← push-report-same p)
-      (settled-alike (pushReport s d p) (d + 1) (putSlot s d p) (putSlot s′ d p)
-      (λ ok. let y = fits s d p (pushable s d p ok) in put-at d s s′ a p (y .1) (y .0)))
-
-rest-alike : (ls : List ℕ) (i d : ℕ) (s s′ : List ℕ) → Agree d s s′ → RunsAlike (goOn ls i s d) (goOn ls i s′ d)
-unfolding goOn
-rest-alike [] i d s s′ a = record { answers = refl; leave = a }
-rest-alike (l ∷ ls) i d s s′ a =
-    let h = operations-alike d s s′ a l in
-    rw (← h .answers)
-    (choice RunsAlike (eqb (operateOf s d l .0 .report) 0) (λ e. rest-alike ls (i + 1) _ _ _ (h .leave)) (λ e. record { answers = refl; leave = a }))
-
-pub runs-alike : (d : ℕ) (s s′ : List ℕ) → Agree d s s′ → (ls : List ℕ) → RunsAlike (runOf s d ls) (runOf s′ d ls)
-unfolding runOf
-runs-alike d s s′ a ls =
-    rw (← limits-agree d s s′ a)
-    (choice RunsAlike (overLimits s d || tooManyLiterals ls) (λ e. record { answers = refl; leave = a }) (λ e. rest-alike ls 0 d s s′ a))
-
-pub views-same : (d : ℕ) (s s′ : List ℕ) → Agree d s s′ → viewOf s d ≡ viewOf s′ d
-unfolding viewOf
-views-same d s s′ a =
-    rw (← limits-agree d s s′ a)
-    (choice _≡_ (overLimits s d || eqb d 0) (λ e. refl) (λ e.
-    let n = neither _ _ e in
-    slot-agrees d s s′ a (within-of s d (n .0) .deep) (d - 1) (omega (arith, eqb-false d 0 (n .1)))))
-
-pub cells-same : (r d : ℕ) (s s′ : List ℕ) → Agree d s s′ → cellOf r s d ≡ cellOf r s′ d
-unfolding cellOf
-cells-same r d s s′ a =
-    rw (← limits-agree d s s′ a)
-    (choice _≡_ (not (eqb r 0)) (λ e. refl) (λ e.
-    choice _≡_ (overLimits s d) (λ f. refl) (λ f.
-    choice _≡_ (eqb d 0) (λ g. refl) (λ g.
-    ap numberShown (number-agrees d s s′ a (within-of s d f .deep) (d - 1) (omega (arith, eqb-false d 0 g)))))))
+pub cells-same : (r d : ℕ) (s s′ : List ℕ) → Agree _≡_ d s s′ → cellOf r s d ≡ cellOf r s′ d
+cells-same r d s s′ a = related-cells carried d s s′ a r

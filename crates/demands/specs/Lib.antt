@@ -1,9 +1,11 @@
 pub mod SlotFacts
 pub mod Accepted
+pub mod Table
 pub mod Counts
 pub mod Bytes
 pub mod Agreement
 pub mod Independence
+pub mod Alike
 pub mod Demand1
 pub mod Demand2
 pub mod Demand2Reads

@@ -19,7 +19,7 @@ use Rattle.demands.specs.Accepted.{accepted}
 use Rattle.demands.specs.Counts.{takesOf, leavesOf, takes-are, leaves-are}
 use Rattle.demands.specs.Demand1.{refused-run}
 use Rattle.demands.specs.Demand2.{stands, new-depth, after-two, after-one, after-delete, after-duplicate, after-exchange}
-use Rattle.demands.specs.Demand2Reads.{neither}
+use Rattle.demands.specs.Alike.{neither}
 use Rattle.demands.specs.Demand2Run.{Leads, none, more, Stopped, position-is-done}
 
 module _ (s : List ℕ) (d l : ℕ) (ok : reportOf s d l ≡ 0) where

@@ -1,36 +1,58 @@
 -- What a slot is read as, what putting five bytes into it changes, byte by byte, and what that leaves. Byte k is in slot k / 5.
-use Prim.Native.Nat.{ℕ, _+_, _*_, _/_, _%_, _≤_, _<_}
+use Prim.Native.Nat.{ℕ, _+_, _*_, _-_, _/_, _%_, _≤_, _<_, min}
 use mathlib.Core.Path.{_≡_, sym, _∙_, ap}
 use mathlib.Core.List.{List, _++_, append-assoc}
+use native.Mathlib.Nat.{add-zero}
 use native.Mathlib.Omega.{arith}
-use lib.ListN.{length, getD, take, drop, List·getD-append}
-use lib.Seq.{drop-at, take-at, length-take-le, getD-drop, getD-set-other}
+use lib.ListN.{length, getD, take, drop, length-take, length-drop}
+use lib.Seq.{drop-at, take-at, length-take-le, getD-take, getD-drop, ext-getD, getD-set-other}
 use Rattle.number.specs.declared.Number.{Number}
 use Rattle.number.specs.NumberLaws.{word-of}
 use Rattle.slots.specs.Slots.{slot, numberIn, bytesOf, putSlot}
-use Rattle.slots.specs.SlotLaws.{five-stores, slot-five, five-of}
+use Rattle.slots.specs.SlotLaws.{five-stores, five-of, length-putSlot}
+
+slot-length : (s : List ℕ) (i : ℕ) → length (slot s i) ≡ min 5 (length s - 5 * i)
+unfolding slot
+slot-length s i = simp (length-take, length-drop)
+
+slot-byte : (s : List ℕ) (i k : ℕ) → k < 5 → getD (slot s i) k 0 ≡ getD s (5 * i + k) 0
+unfolding slot
+slot-byte s i k h = getD-take 5 (drop (5 * i) s) k 0 h ∙ getD-drop (5 * i) s k 0
+
+pub byte-in-slot : (s : List ℕ) (k : ℕ) → getD s k 0 ≡ getD (slot s (k / 5)) (k % 5) 0
+byte-in-slot s k = ap (λ (j : ℕ). getD s j 0) (omega arith) ∙ sym (slot-byte s (k / 5) (k % 5) (omega arith))
+
+-- two stacks of one length with the same bytes there have the same slot
+pub same-slot : (s s′ : List ℕ) (i : ℕ) → length s ≡ length s′ → ((k : ℕ) → k / 5 ≡ i → getD s k 0 ≡ getD s′ k 0) → slot s i ≡ slot s′ i
+same-slot s s′ i l e =
+    ext-getD 0 (slot s i) (slot s′ i) (omega (arith, slot-length s i, slot-length s′ i)) (λ k h.
+    let g : k < 5 = omega (arith, slot-length s i) in
+    slot-byte s i k g ∙ e (5 * i + k) (omega arith) ∙ sym (slot-byte s′ i k g))
+
+-- a number is read from the five bytes of its slot alone
+pub number-slot : (s : List ℕ) (i : ℕ) → numberIn s i ≡ numberIn (slot s i) 0
+unfolding numberIn
+number-slot s i =
+    rw (
+      slot-byte s i 0 (omega arith),
+      slot-byte s i 1 (omega arith),
+      slot-byte s i 2 (omega arith),
+      slot-byte s i 3 (omega arith),
+      slot-byte s i 4 (omega arith),
+      add-zero (5 * i),
+    )
+
+-- a number is read back from its five bytes
+pub number-back : (n : Number) → numberIn (bytesOf n) 0 ≡ n
+unfolding numberIn bytesOf
+number-back n = ap (λ (w : ℕ). record { b1 = n .b1; word = w }) (word-of n)
+
+pub number-there : (s : List ℕ) (i : ℕ) (n : Number) → slot s i ≡ bytesOf n → numberIn s i ≡ n
+number-there s i n e = number-slot s i ∙ ap (λ (five : List ℕ). numberIn five 0) e ∙ number-back n
 
 module _ (s : List ℕ) (i : ℕ) (h : 5 * i + 5 ≤ length s) where
   pub length-slot : length (slot s i) ≡ 5
-  length-slot = ap length (slot-five s i h)
-
-  -- a number is read from the five bytes of its slot alone
-  pub number-slot : numberIn s i ≡ numberIn (slot s i) 0
-  unfolding numberIn
-  number-slot = rw slot-five
-
-  -- two stacks with the same bytes there have the same slot
-  pub same-slot : (s′ : List ℕ) → 5 * i + 5 ≤ length s′ → ((k : ℕ) → k / 5 ≡ i → getD s k 0 ≡ getD s′ k 0) → slot s i ≡ slot s′ i
-  same-slot s′ h′ e =
-      rw (
-        slot-five s i h,
-        slot-five s′ i h′,
-        e (5 * i) (omega arith),
-        e (5 * i + 1) (omega arith),
-        e (5 * i + 2) (omega arith),
-        e (5 * i + 3) (omega arith),
-        e (5 * i + 4) (omega arith),
-      )
+  length-slot = omega (arith, slot-length s i)
 
   module _ (five : List ℕ) (f : length five ≡ 5) where
     from-slot : drop (5 * i) (putSlot s i five) ≡ five ++ drop (5 * i + 5) s
@@ -42,13 +64,6 @@ module _ (s : List ℕ) (i : ℕ) (h : 5 * i + 5 ≤ length s) where
     unfolding slot
     put-slot = rw from-slot (take-at five (drop (5 * i + 5) s) 5 f)
 
-    pub put-inside : (k : ℕ) → k / 5 ≡ i → getD (putSlot s i five) k 0 ≡ getD five (k % 5) 0
-    put-inside k e =
-        ap (λ (m : ℕ). getD (putSlot s i five) m 0) (omega arith)
-        ∙ sym (getD-drop (5 * i) (putSlot s i five) (k % 5) 0)
-        ∙ ap (λ (l : List ℕ). getD l (k % 5) 0) from-slot
-        ∙ List·getD-append five (drop (5 * i + 5) s) 0 (k % 5) (omega arith)
-
     -- every byte outside the slot is as it was
     pub put-elsewhere : (k : ℕ) → (5 * i ≤ k → k < 5 * i + 5 → ⊥) → getD (putSlot s i five) k 0 ≡ getD s k 0
     put-elsewhere k o =
@@ -59,8 +74,6 @@ module _ (s : List ℕ) (i : ℕ) (h : 5 * i + 5 ≤ length s) where
         let n4 : k ≡ 5 * i + 4 → ⊥ = λ e. o (omega arith) (omega arith) in
         rw (← five-of five f, ← five-stores s i h _ _ _ _ _) (simp getD-set-other)
 
--- a number whose five bytes are in a slot is read from it
-pub number-there : (s : List ℕ) (i : ℕ) → 5 * i + 5 ≤ length s → (n : Number) → slot s i ≡ bytesOf n → numberIn s i ≡ n
-unfolding numberIn bytesOf
-number-there s i h n e =
-    number-slot s i h ∙ ap (λ (five : List ℕ). numberIn five 0) e ∙ ap (λ (w : ℕ). record { b1 = n .b1; word = w }) (word-of n)
+    -- so is every other slot
+    pub put-other : (j : ℕ) → (j ≡ i → ⊥) → slot (putSlot s i five) j ≡ slot s j
+    put-other j n = same-slot (putSlot s i five) s j (length-putSlot s i h five f) (λ k e. put-elsewhere k (λ p q. n (omega arith)))
