@@ -103,3 +103,8 @@ module _ {R : List ℕ → List ℕ → Type 0} (c : Carried R) where
   related-runs d s s′ a ls =
       rw (← limits-agree d s s′ a)
       (choice (RunsAlike R) (overLimits s d || tooManyLiterals ls) (λ e. record { answers = refl; leave = a }) (λ e. rest-alike ls 0 d s s′ a))
+
+  -- the cell made from a run's report and the stack after it
+  pub related-run-cells : (d : ℕ) (s s′ : List ℕ) → Agree R d s s′ → (ls : List ℕ)
+      → (let x = runOf s d ls in let x′ = runOf s′ d ls in cellOf (x .0 .report) (x .1) (x .0 .depth) ≡ cellOf (x′ .0 .report) (x′ .1) (x′ .0 .depth))
+  related-run-cells d s s′ a ls = let h = related-runs d s s′ a ls in rw (← h .answers) (related-cells _ _ _ (h .leave) _)

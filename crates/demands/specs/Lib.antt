@@ -9,6 +9,9 @@ pub mod Alike
 pub mod Demand1
 pub mod Demand2
 pub mod Demand2Reads
+pub mod ButB5
+pub mod ButB5Operations
+pub mod ButB5Stacks
 pub mod Demand2Run
 pub mod Answered
 pub mod Demand3

@@ -15,7 +15,7 @@ slot-length : (s : List ℕ) (i : ℕ) → length (slot s i) ≡ min 5 (length s
 unfolding slot
 slot-length s i = simp (length-take, length-drop)
 
-slot-byte : (s : List ℕ) (i k : ℕ) → k < 5 → getD (slot s i) k 0 ≡ getD s (5 * i + k) 0
+pub slot-byte : (s : List ℕ) (i k : ℕ) → k < 5 → getD (slot s i) k 0 ≡ getD s (5 * i + k) 0
 unfolding slot
 slot-byte s i k h = getD-take 5 (drop (5 * i) s) k 0 h ∙ getD-drop (5 * i) s k 0
 

@@ -9,6 +9,11 @@ abbrev pub Each : (Row → Type 0) → List Row → Type 0
 Each P [] = Unit
 Each P (r ∷ rs) = P r × Each P rs
 
+-- a row's proof and those of the rows after it
+infixr 5 _and_
+pub _and_ : {A B : Type 0} → A → B → A × B
+_and_ a b = (a, b)
+
 module _ (P : Row → Type 0) (none : (l : ℕ) → P (row l unknown 0 0)) where
   picked : (b : Bool) (r q : Row) → P r → P q → P (cond b r q)
   picked true r q h k = h

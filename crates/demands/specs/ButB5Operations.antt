@@ -1,0 +1,98 @@
+-- A2, the operations: of numbers that are the same but for b5 of a short or odd one, the form and the cell are the same, and so is what an operation
+-- gives, but for b5 again. (Addition, subtraction and int are not here.)
+use Prim.Native.Nat.{ℕ, _-_}
+use mathlib.Core.Path.{_≡_, refl, _∙_, ap, ap₂}
+use mathlib.Core.Logic.{inl, inr}
+use Rattle.number.specs.declared.Number.{Number}
+use Rattle.number.specs.declared.form.Form.{Form}
+use Rattle.number.specs.declared.form.Form.the-variants.{Full, Short, Odd, Malformed}
+use Rattle.number.specs.Number.{shortOf, formOf, isMalformed, malformed, passesZeroTest}
+use Rattle.number.specs.Restack.{restacked}
+use Rattle.number.specs.Negate.{negatedAs, negated}
+use Rattle.value.specs.Double.{doubleOfRestacked, doubleOf}
+use Rattle.ending.specs.declared.answer.Answer.{Answer}
+use Rattle.ending.specs.declared.answer.Answer.the-variants.{Done}
+use Rattle.division.specs.Division.{restackedQuotient, quotientOf}
+use Rattle.multiplication.specs.Multiplication.{productOf}
+use Rattle.truncation.specs.Truncate.{truncated}
+use Rattle.truncation.specs.TruncateLaws.{truncate-not-full}
+use Rattle.display.specs.declared.shown.Cell.the-variants.{Value}
+use Rattle.display.specs.Cell.{shown, numberShown}
+use Rattle.demands.specs.Independence.{Answers, done, answers-same}
+use Rattle.demands.specs.Alike.{choice}
+use Rattle.demands.specs.ButB5.{ShortOrOdd, Like, SameParts, b1-zero, short-both, parts-same}
+
+-- what an operation keeps
+abbrev pub KeepsOne : (Number → Answer) → Type 0
+KeepsOne f = (x x′ : Number) → Like x x′ → Answers Like (f x) (f x′)
+
+abbrev pub KeepsTwo : (Number → Number → Answer) → Type 0
+KeepsTwo f = (x x′ y y′ : Number) → Like x x′ → Like y y′ → Answers Like (f x y) (f x′ y′)
+
+module _ (x x′ : Number) (h : Like x x′) where
+  pub malformed-alike : malformed x ≡ malformed x′
+  unfolding malformed
+  malformed-alike = ap isMalformed (parts-same x x′ h .forms)
+
+  -- the cell's double goes by the re-stacked number
+  pub shown-alike : numberShown x ≡ numberShown x′
+  unfolding shown doubleOf
+  shown-alike = ap (λ (f : Form). shown f x) (parts-same x x′ h .forms) ∙ go (formOf x′)
+    where
+      values : Value (doubleOf x) ≡ Value (doubleOf x′)
+      values = ap (λ (y : Number). Value (doubleOfRestacked y)) (parts-same x x′ h .restacks)
+
+      go : (f : Form) → shown f x ≡ shown f x′
+      go Full = values
+      go Short = values
+      go Odd = refl
+      go Malformed = refl
+
+-- "A number that passes the zero test stays as it is; [..] odd becomes five zero bytes; other shorts change sign": by the sign and the magnitude.
+pub negated-alike : (x x′ : Number) → Like x x′ → Like (negated x) (negated x′)
+unfolding negated
+negated-alike x x′ (inl e) = inl (ap negated e)
+negated-alike x x′ (inr b) =
+    rw (← s .zero-tests, ← s .forms) (choice Like (passesZeroTest x) (λ e. inr b) (λ e. inl (changed (b .form))))
+  where
+    s : SameParts x x′
+    s = parts-same x x′ (inr b)
+
+    changed : ShortOrOdd x → negatedAs (formOf x) x ≡ negatedAs (formOf x) x′
+    changed (inl e) = rw e (ap₂ (λ (g v : ℕ). shortOf (1 - g) v) (s .signs) (s .magnitudes))
+    changed (inr e) = rw e
+
+-- "Short and odd stay, b5 included."
+pub truncated-alike : (x x′ : Number) → Like x x′ → Like (truncated x) (truncated x′)
+truncated-alike x x′ (inl e) = inl (ap truncated e)
+truncated-alike x x′ (inr b) = rw (truncate-not-full x (b1-zero x (b .form)), truncate-not-full x′ (b1-zero x′ (short-both x x′ b))) (inr b)
+
+module _ (x x′ y y′ : Number) (h : Like x x′) (k : Like y y′) where
+  s : SameParts x x′
+  s = parts-same x x′ h
+
+  t : SameParts y y′
+  t = parts-same y y′ k
+
+  pub quotient-same : quotientOf x y ≡ quotientOf x′ y′
+  unfolding quotientOf
+  quotient-same = ap₂ restackedQuotient (s .restacks) (t .restacks)
+
+  pub product-same : productOf x y ≡ productOf x′ y′
+  unfolding productOf
+  product-same = rw (s .restacks, t .restacks, s .magnitudes, t .magnitudes, s .signs, t .signs, s .exponents, t .exponents)
+
+pub negation-keeps : KeepsOne (λ x. Done (negated x))
+negation-keeps x x′ h = done (negated-alike x x′ h)
+
+pub truncation-keeps : KeepsOne (λ x. Done (truncated x))
+truncation-keeps x x′ h = done (truncated-alike x x′ h)
+
+pub restacking-keeps : KeepsOne (λ x. Done (restacked x))
+restacking-keeps x x′ h = done (inl (parts-same x x′ h .restacks))
+
+pub division-keeps : KeepsTwo quotientOf
+division-keeps x x′ y y′ h k = answers-same (λ n. inl refl) _ _ (quotient-same x x′ y y′ h k)
+
+pub multiplication-keeps : KeepsTwo productOf
+multiplication-keeps x x′ y y′ h k = answers-same (λ n. inl refl) _ _ (product-same x x′ y y′ h k)
