@@ -1,6 +1,6 @@
 -- A2: "no run's report, position, depth or cell depends on b5 of a short number below the depth." Numbers and slots that are the same but for that byte,
 -- and what is then the same of two numbers.
-use Prim.Native.Nat.{ℕ, _+_, _*_, _^_, _/_, _<_}
+use Prim.Native.Nat.{ℕ, _+_, _*_, _^_, _/_, _%_, _<_}
 use mathlib.Core.Path.{_≡_, refl, sym, _∙_, ap, ap₂}
 use mathlib.Core.Logic.{_⊎_, inl, inr}
 use mathlib.Core.Bool.{cond}
@@ -9,9 +9,11 @@ use native.Mathlib.Nat.{div-div-eq-div-mul, eq-zero-or-pos}
 use native.Mathlib.Omega.{arith}
 use lib.Dec.{eqb}
 use lib.IntN.{pos, _-ℤ_}
+use lib.ListN.{getD, take}
 use Rattle.number.specs.declared.Number.{Number}
 use Rattle.number.specs.declared.form.Form.the-variants.{Short, Odd}
-use Rattle.number.specs.Number.{b2, b3, b4, sign, low, complementOf, shortMagnitude, formOf, passesZeroTest}
+use Rattle.number.specs.Number.{b2, b3, b4, wordOf, sign, low, complementOf, shortMagnitude, formOf, passesZeroTest}
+use Rattle.number.specs.NumberLaws.{places}
 use Rattle.number.specs.FormLaws.{form-bytes}
 use Rattle.number.specs.Value.{shortValue}
 use Rattle.number.specs.Restack.{fullOfShort, restacked}
@@ -38,9 +40,33 @@ pub record ButB5 (x x′ : Number) : Type 0 where
 abbrev pub Like : Number → Number → Type 0
 Like x x′ = (x ≡ x′) ⊎ ButB5 x x′
 
--- the same bytes of a slot, "but for b5" where the number in it is short or odd
-abbrev pub LikeSlots : List ℕ → List ℕ → Type 0
-LikeSlots p p′ = (p ≡ p′) ⊎ ButB5 (numberIn p 0) (numberIn p′ 0)
+-- Of the bytes of two slots: b1 to b4 are the same, of a short or odd number. (b5 is a byte: a larger number in its place would reach into b4.)
+pub record OnlyB5 (p p′ : List ℕ) : Type 0 where
+  pub four : take 4 p ≡ take 4 p′
+  pub form : ShortOrOdd (numberIn p 0)
+  pub byte : getD p 4 0 < 256
+  pub byte′ : getD p′ 4 0 < 256
+
+-- the same five bytes, "but for b5" where they are of a short or odd number
+abbrev pub SameButB5 : List ℕ → List ℕ → Type 0
+SameButB5 p p′ = (p ≡ p′) ⊎ OnlyB5 p p′
+
+-- ---- the first four bytes are b1 and the upper part of the word
+
+pub upper : (b c d e : ℕ) → e < 256 → wordOf b c d e / 2 ^ 8 ≡ b * 2 ^ 16 + c * 2 ^ 8 + d
+upper b c d e h = omega arith
+
+pub four-of : (x x′ : Number) → x .b1 ≡ x′ .b1 → x .word / 2 ^ 8 ≡ x′ .word / 2 ^ 8 → SameFour x x′
+four-of x x′ h e =
+    let p = places (x .word) in
+    let q = places (x′ .word) in
+    let two : x .word / 2 ^ 16 ≡ x′ .word / 2 ^ 16 = p .0 ∙ ap (λ (k : ℕ). k / 2 ^ 8) e ∙ sym (q .0) in
+    record {
+      b1-same = h;
+      b2-same = p .1 ∙ ap (λ (k : ℕ). k / 2 ^ 8) two ∙ sym (q .1);
+      b3-same = ap (λ (k : ℕ). k % 256) two;
+      b4-same = ap (λ (k : ℕ). k % 256) e;
+    }
 
 -- ---- what goes by the first four bytes
 

@@ -1,5 +1,5 @@
 -- A2, the operations: of numbers that are the same but for b5 of a short or odd one, the form and the cell are the same, and so is what an operation
--- gives, but for b5 again. (Addition, subtraction and int are not here.)
+-- gives, but for b5 again. (Sums and int: ButB5Sums.)
 use Prim.Native.Nat.{ℕ, _-_}
 use mathlib.Core.Path.{_≡_, refl, _∙_, ap, ap₂}
 use mathlib.Core.Logic.{inl, inr}

@@ -55,7 +55,7 @@ answers-same {N} same v v′ e = rw e (go v′)
     go (Done n) = done (same n)
     go TooBig = too-big
 
-too-big-same : {N : Number → Number → Type 0} {v v′ : Answer} → Answers N v v′ → isTooBig v ≡ isTooBig v′
+pub too-big-same : {N : Number → Number → Type 0} {v v′ : Answer} → Answers N v v′ → isTooBig v ≡ isTooBig v′
 unfolding isTooBig
 too-big-same (done r) = refl
 too-big-same too-big = refl

@@ -9,10 +9,13 @@ pub mod Alike
 pub mod Demand1
 pub mod Demand2
 pub mod Demand2Reads
+pub mod Demand2Run
+pub mod Commutes
 pub mod ButB5
 pub mod ButB5Operations
+pub mod ButB5Sums
 pub mod ButB5Stacks
-pub mod Demand2Run
+pub mod FifthByte
 pub mod Answered
 pub mod Demand3
 pub mod Report1

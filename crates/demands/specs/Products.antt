@@ -1,13 +1,12 @@
 -- Document 02, A1: what it asks to be shown of multiplication, and what the digits are, of literal 4's own report, depth and bytes on a stack.
-use Prim.Native.Nat.{ℕ, zero, suc, _+_, _-_, _*_, _≤_, _<_}
-use mathlib.Core.Path.{_≡_, refl, sym, _∙_, ap, ap₂, subst⁻¹}
+use Prim.Native.Nat.{ℕ, _+_, _-_, _*_, _≤_, _<_}
+use mathlib.Core.Path.{_≡_, refl, sym, _∙_, ap, subst⁻¹}
 use mathlib.Core.Logic.{_↔_}
-use mathlib.Core.Bool.{_||_, or-comm}
 use mathlib.Core.List.{List}
 use native.Mathlib.Omega.{arith}
 use lib.ListN.{length, getD}
 use Rattle.number.specs.declared.Number.{Number}
-use Rattle.number.specs.Number.{malformed, mantissa}
+use Rattle.number.specs.Number.{mantissa}
 use Rattle.number.specs.Restack.{restacked, CountsAsZero}
 use Rattle.multiplication.specs.Multiplication.{signOfTwo, taken, productOf}
 use Rattle.multiplication.specs.Rounding.{Overflows, Result, Products}
@@ -15,15 +14,13 @@ use Rattle.multiplication.specs.RoundingLaws.{products}
 use Rattle.multiplication.specs.Commutes.{product-commutes}
 use Rattle.slots.specs.declared.outcome.Outcome.{Outcome}
 use Rattle.slots.specs.Slots.{slot, numberIn, bytesOf, lower, top}
-use Rattle.slots.specs.Reports.{overLimits}
-use Rattle.slots.specs.Push.{settled}
-use Rattle.literals.specs.Literals.{rowOf, operationOf, takes, leaves}
-use Rattle.literals.specs.Reports.{notInTable, noRoomFor, malformedOperand, tooBig, reportOf}
-use Rattle.literals.specs.Operate.{bytesAfter, operateOf}
+use Rattle.literals.specs.Literals.{rowOf, takes}
+use Rattle.literals.specs.Operate.{operateOf}
 use Rattle.demands.specs.Accepted.{Passed}
 use Rattle.demands.specs.Bytes.{AreBytes, operand-bytes}
-use Rattle.demands.specs.Demand1.{operation-report}
-use Rattle.demands.specs.Demand2.{literals, after-two}
+use Rattle.demands.specs.Demand2.{literals}
+use Rattle.demands.specs.Independence.{Answers, answers-same}
+use Rattle.demands.specs.Commutes.{commuted-outcome, commuted-bytes}
 use Rattle.demands.specs.Answered.{answered}
 use Rattle.demands.specs.Report6.{multiplication-6}
 
@@ -86,32 +83,13 @@ module _ (s : List ℕ) (d : ℕ) (h : Multiplies s d) where
             };
       }
 
--- report and depth do not go by the bytes
-outcome-alone : (r d d′ : ℕ) (s s′ t t′ : List ℕ) → settled r d s d′ t .0 ≡ settled r d s′ d′ t′ .0
-unfolding settled
-outcome-alone zero d d′ s s′ t t′ = refl
-outcome-alone (suc k) d d′ s s′ t t′ = refl
-
 -- "Multiplication commutes", bytes and report: with the two operands in each other's place, the report, the depth and the result's five bytes are the same.
 module _ (s s′ : List ℕ) (d : ℕ) (long : length s ≡ length s′) (first : lower s d ≡ top s′ d) (second : top s d ≡ lower s′ d) where
-  same-answer : productOf (lower s d) (top s d) ≡ productOf (lower s′ d) (top s′ d)
-  same-answer = ap₂ productOf first second ∙ product-commutes (top s′ d) (lower s′ d)
-
-  same-report : reportOf s d 4 ≡ reportOf s′ d 4
-  unfolding reportOf operationOf rowOf notInTable noRoomFor malformedOperand tooBig overLimits
-  same-report =
-      let forms = ap₂ (λ (x y : Number). malformed x || malformed y) first second ∙ or-comm (malformed (top s′ d)) (malformed (lower s′ d)) in
-      simp (long, forms, same-answer)
+  commuting : (x y : Number) → Answers _≡_ (productOf x y) (productOf y x)
+  commuting x y = answers-same (λ n. refl) _ _ (product-commutes x y)
 
   pub commutes-outcome : operateOf s d 4 .0 ≡ operateOf s′ d 4 .0
-  unfolding operateOf
-  commutes-outcome = ap (λ (r : ℕ). settled r d s (d - takes 4 + leaves 4) (bytesAfter (operationOf 4) s d) .0) same-report ∙ outcome-alone (reportOf s′ d 4) _ _ _ _ _ _
+  commutes-outcome = commuted-outcome _≡_ 4 productOf (literals .3) commuting s s′ d long first second
 
   pub commutes-bytes : operateOf s d 4 .0 .report ≡ 0 → slot (operateOf s d 4 .1) (d - 2) ≡ slot (operateOf s′ d 4 .1) (d - 2)
-  commutes-bytes r =
-      let ok : reportOf s d 4 ≡ 0 = sym (operation-report s d 4) ∙ r in
-      let ok′ : reportOf s′ d 4 ≡ 0 = sym same-report ∙ ok in
-      let a = after-two s d 4 ok productOf (literals .3) in
-      let b = after-two s′ d 4 ok′ productOf (literals .3) in
-      let same : a .0 ≡ b .0 = cc (a .1, b .1, same-answer) in
-      a .2 .there ∙ ap bytesOf same ∙ sym (b .2 .there)
+  commutes-bytes r = let b = commuted-bytes _≡_ 4 productOf (literals .3) commuting s s′ d long first second r in b .2 ∙ ap bytesOf (b .4) ∙ sym (b .3)

@@ -1,5 +1,5 @@
--- Document 01's sums, by computation: the starred rows, together, the other rows with the edges of the rules, multiplication's, and the worked run. Each row is an
--- operation on a stack of its own.
+-- Document 01's sums, by computation: the starred rows, together, the other rows with the edges of the rules, multiplication's, those that keep a b5, and the worked
+-- run. Each row is an operation on a stack of its own.
 use Prim.Native.Nat.{ℕ}
 use mathlib.Core.Path.{_≡_, refl}
 use mathlib.Core.List.{List, [], _∷_, _++_, map}
@@ -51,7 +51,7 @@ turns l x z = record { stack = bytesOf x; depth = 1; literal = l; leaves = (reco
 abbrev pub Hold : List Case → Type 0
 Hold cs = map (λ (c : Case). operateOf (c .stack) (c .depth) (c .literal)) cs ≡ map (λ (c : Case). c .leaves) cs
 
--- 4 multiplies, 5 divides, 15 adds, 27 negates, 39 is int, 58 truncates, 61 re-stacks.
+-- 3 subtracts, 4 multiplies, 5 divides, 15 adds, 27 negates, 39 is int, 58 truncates, 61 re-stacks.
 abbrev pub starred : List Case
 starred =
     gives 5 (bytes 0x81 0 0 0 0) (bytes 0x84 0x20 0 0 0) (bytes 0x7D 0x4C 0xCC 0xCC 0xCC)
@@ -144,6 +144,22 @@ Worked =
     (productOf (bytes 0 0 0 0x01 0) (bytes 0 0 0xFF 0 0) ≡ Done (bytes 0 0 0 0xFF 0))
     × (productOf (bytes 0 0 0 0x01 0) (bytes 0 0 0 0x01 0) ≡ Done (bytes 0x91 0 0 0 0))
 
+-- Document 02, A2: the first number's b5 stays in a short sum, also where it is zero or odd, and where a zero is subtracted; beyond the short route nothing of it is left.
+-- Int of a short number leaves it, and of a full one less the short 1 keeps the 0 that truncation wrote.
+abbrev pub fifth : List Case
+fifth =
+    gives 15 (bytes 0 0 0x01 0 0x9B) (bytes 0 0 0x02 0 0x11) (bytes 0 0 0x03 0 0x9B)
+    ∷ gives 3 (bytes 0 0xFF 0xFF 0xFF 0x9B) (bytes 0 0 0x01 0 0) (bytes 0 0xFF 0xFE 0xFF 0x9B)
+    ∷ gives 15 (bytes 0 0 0x05 0 0x01) (bytes 0 0xFF 0xFB 0xFF 0x02) (bytes 0 0 0 0 0x01)
+    ∷ gives 15 (bytes 0 0xFF 0x18 0x02 0x07) (bytes 0 0xFF 0xE8 0xFD 0) (bytes 0 0xFF 0 0 0x07)
+    ∷ gives 3 (bytes 0 0 0x01 0 0x05) (bytes 0 0 0 0 0x09) (bytes 0 0 0x01 0 0x05)
+    ∷ gives 15 (bytes 0 0 0xFF 0xFF 0x7F) (bytes 0 0 0x01 0 0x7F) (bytes 0x91 0 0 0 0)
+    ∷ gives 15 (bytes 0 0xFF 0 0 0x07) (bytes 0 0xFF 0xFF 0xFF 0) (bytes 0x81 0x80 0 0 0)
+    ∷ turns 39 (bytes 0 0xFF 0xFE 0xFF 0x07) (bytes 0 0xFF 0xFE 0xFF 0x07)
+    ∷ turns 39 (bytes 0 0xFF 0 0 0x07) (bytes 0x81 0x80 0 0 0)
+    ∷ turns 39 (bytes 0x81 0xC0 0 0 0x01) (bytes 0 0xFF 0xFE 0xFF 0)
+    ∷ []
+
 -- "A run whole: bench of 10 bytes holding 00 00 06 00 00 00 00 02 00 00, depth 2, literals 5, 49, 49. [..] Answer: report 4, position 2, depth 2,
 -- bench 82 40 00 00 00 twice."
 abbrev pub WorkedRun : Type 0
@@ -151,13 +167,13 @@ WorkedRun =
     runOf (0 ∷ 0 ∷ 6 ∷ 0 ∷ 0 ∷ 0 ∷ 0 ∷ 2 ∷ 0 ∷ 0 ∷ []) 2 (5 ∷ 49 ∷ 49 ∷ [])
     ≡ (record { report = 4; position = 2; depth = 2 }, 0x82 ∷ 0x40 ∷ 0 ∷ 0 ∷ 0 ∷ 0x82 ∷ 0x40 ∷ 0 ∷ 0 ∷ 0 ∷ [])
 
-computed : Hold starred × Hold unstarred × Hold edges × Hold multiplied × Worked × WorkedRun
+computed : Hold starred × Hold unstarred × Hold edges × Hold multiplied × Worked × WorkedRun × Hold fifth
 unfolding
     runOf goOn operateOf settled reportOf bytesAfter stored slot putSlot bytesOf numberIn overLimits tooManyLiterals notInTable noRoom noRoomFor
     malformed malformedOperand isTooBig tooBig operationOf takes leaves rowOf quotientOf restackedQuotient fullQuotient tried rounds normal closed ended
     restacked fullOfShort formOf leadingZeros sumOf shortRoute fullRoute alignedSum endedSum aligned shortValue truncated truncatedFull taken65536
     intOf differenceOf negated passesZeroTest productOf restackedProduct fullProduct
-computed = (refl, refl, refl, refl, (refl, refl), refl)
+computed = (refl, refl, refl, refl, (refl, refl), refl, refl)
 
 pub starred-hold : Hold starred
 starred-hold = computed .0
@@ -176,3 +192,6 @@ products-worked = computed .4
 
 pub worked-run : WorkedRun
 worked-run = computed .5
+
+pub fifth-hold : Hold fifth
+fifth-hold = computed .6
