@@ -5,7 +5,8 @@
  *
  *     full       b1 is 1 to 255. b2 to b5 are the mantissa, high byte first, with the sign in place of its top bit, which is always set.
  *                It is worth mantissa x 2^(b1 - 160).
- *     short      b1 is 0, b2 is 00 or FF, b3 low and b4 high: 256 b4 + b3, less 65,536 if b2 is FF. b5 means nothing.
+ *     short      b1 is 0, b2 is 00 or FF, b3 low and b4 high: 256 b4 + b3, less 65,536 if b2 is FF. b5 means nothing: no report, depth
+ *                or cell goes by it. A sum or difference that is stored short keeps the first number's b5, as in the ROM.
  *     odd        00 FF 00 00 and any b5, which the ROM makes by mistake. It is well formed.
  *     malformed  anything else: b1 is 0 and b2 is neither 00 nor FF.
  *
