@@ -44,6 +44,13 @@ pub fn store_value(x: &mut Slot, value: i32) {
     store_bits(x, (value as u32).rotate_left(8) & 0x00FF_FFFF);
 }
 
+/// b2, b3 and b4 alone of a value from -65,536 to 65,535: b5 stays.
+#[inline(always)]
+pub fn store_sum(x: &mut Slot, value: i32) {
+    *x[2..].first_chunk_mut().unwrap() = (value as u16).to_le_bytes();
+    x[1] = (value >> 16) as u8;
+}
+
 /// What a number is whose b1 is 0: its sign, 0 or -1, and its low half.
 #[derive(Clone, Copy)]
 pub struct Short {

@@ -3,7 +3,7 @@
 //! is selected and not branched to: branches take a tenth fewer instructions and twice the
 //! time.
 
-use super::number::{least, signed, store_value, store_word, word, Short, Slot, SIGN, ZERO};
+use super::number::{least, signed, store_sum, store_word, word, Short, Slot, SIGN, ZERO};
 use crate::reference::{DONE, MALFORMED, TOO_BIG};
 use std::hint::cold_path;
 
@@ -72,7 +72,7 @@ fn sum(first: &mut Slot, second: &Slot, negated: bool) -> u8 {
             };
             let sum = a.value() + value;
             if (-65_536..65_536).contains(&sum) {
-                store_value(first, sum);
+                store_sum(first, sum);
                 return DONE;
             }
             (short(a, false), short(b, negated))
