@@ -89,6 +89,41 @@ fn every_exponent_with_the_words_at_the_edges() {
     }
 }
 
+/// Odd is among them.
+#[test]
+fn sums_of_short_numbers_at_the_edges() {
+    let mut values = vec![-65_536];
+    for edge in [0, 256, 32_768, 65_533] {
+        for value in edge - 2..=edge + 2 {
+            values.extend([value, -value]);
+        }
+    }
+    for &a in &values {
+        for &b in &values {
+            for (b5, other) in [(0, 0), (0, 0xA5), (0x5A, 0), (0xFF, 1)] {
+                let pair = [draw::short(a, b5), draw::short(b, other)].concat();
+                for literal in [3, 15] {
+                    held_to_the_reference(&pair, 2, literal);
+                    run_held_to_the_reference(&pair, 2, &[literal, literal]);
+                }
+            }
+        }
+    }
+}
+
+/// Only 00 and FF are well formed where b1 is zero.
+#[test]
+fn sums_with_every_second_byte_on_either_side() {
+    for a in 0..=255 {
+        for b in 0..=255 {
+            let pair = [[0, a, 1, 2, 3], [0, b, 0, 0, 4]].concat();
+            for literal in [3, 15] {
+                held_to_the_reference(&pair, 2, literal);
+            }
+        }
+    }
+}
+
 #[test]
 fn products_at_the_edges() {
     let mut rng = Rng::new(4);

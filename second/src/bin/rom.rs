@@ -34,15 +34,17 @@ fn main() -> ExitCode {
 
 fn compare(count: u64, seed: u64, machine: &mut Machine) -> ExitCode {
     let mut rng = Rng::new(seed);
-    let (mut all_agreed, mut all_kept, mut all_differ) = (0, 0, 0);
+    let (mut all_agreed, mut all_fifth, mut all_differ) = (0, 0, 0);
     let literals = COMPARED.len() as u64;
     for (i, (literal, name)) in COMPARED.into_iter().enumerate() {
         let share = count / literals + u64::from((i as u64) < count % literals);
-        let (mut agreed, mut kept, mut differ) = (0, 0, 0);
+        let (mut agreed, mut fifth, mut differ) = (0, 0, 0);
         for _ in 0..share {
             match one(&mut rng, machine, literal) {
-                Found::Agreed => agreed += 1,
-                Found::FifthByteKept => kept += 1,
+                Found::Agreed { fifth_byte } => {
+                    agreed += 1;
+                    fifth += u64::from(fifth_byte);
+                }
                 Found::Differs(words) => {
                     differ += 1;
                     if differ <= PRINTED {
@@ -51,18 +53,25 @@ fn compare(count: u64, seed: u64, machine: &mut Machine) -> ExitCode {
                 }
             }
         }
-        println!("{name}: {agreed} agreed, {kept} but for b5 of a short sum, {differ} differ");
+        println!("{name}: {agreed} agreed{}, {differ} differ", among(fifth));
         all_agreed += agreed;
-        all_kept += kept;
+        all_fifth += fifth;
         all_differ += differ;
     }
-    println!(
-        "{} cases agreed ({all_kept} of them but for b5 of a short sum), {all_differ} differ",
-        all_agreed + all_kept
-    );
+    let fifth = among(all_fifth);
+    println!("{all_agreed} cases agreed{fifth}, {all_differ} differ");
     if all_differ == 0 {
         ExitCode::SUCCESS
     } else {
         ExitCode::FAILURE
+    }
+}
+
+/// How many of those that agreed are short sums with a fifth byte, which literals of other kinds
+/// have none of.
+fn among(fifth: u64) -> String {
+    match fifth {
+        0 => String::new(),
+        _ => format!(" ({fifth} of them short sums whose b5 is not zero)"),
     }
 }

@@ -44,11 +44,18 @@ pub fn store_value(x: &mut Slot, value: i32) {
     store_bits(x, (value as u32).rotate_left(8) & 0x00FF_FFFF);
 }
 
+/// b2, b3 and b4 of a short sum. The fifth byte is left, and nothing is read to leave it.
+#[inline(always)]
+pub fn store_sum(x: &mut Slot, sign: i8, low: u16) {
+    x[1] = sign as u8;
+    [x[2], x[3]] = low.to_le_bytes();
+}
+
 /// What a number is whose b1 is 0: its sign, 0 or -1, and its low half.
 #[derive(Clone, Copy)]
 pub struct Short {
     pub sign: i64,
-    low: u16,
+    pub low: u16,
 }
 
 impl Short {
@@ -60,10 +67,25 @@ impl Short {
             cold_path();
             return None;
         }
-        Some(Short {
-            sign: sign.into(),
+        Some(Short::well_formed(x))
+    }
+
+    /// The same of two, with one question for both.
+    #[inline(always)]
+    pub fn load_two(x: &Slot, y: &Slot) -> Option<(Short, Short)> {
+        if (x[1].wrapping_add(1) | y[1].wrapping_add(1)) > 1 {
+            cold_path();
+            return None;
+        }
+        Some((Short::well_formed(x), Short::well_formed(y)))
+    }
+
+    #[inline(always)]
+    fn well_formed(x: &Slot) -> Short {
+        Short {
+            sign: (x[1] as i8).into(),
             low: u16::from_le_bytes([x[2], x[3]]),
-        })
+        }
     }
 
     /// Odd is -65,536.

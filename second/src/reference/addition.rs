@@ -1,4 +1,4 @@
-//! Document 01, "Addition and subtraction (003)".
+//! Document 01, "Addition and subtraction (003)", with A2's fifth byte of a short sum.
 
 use super::ending::ending;
 use super::number::{form, negate, pow2, re_stacked, store_short, Form, Scaled};
@@ -8,7 +8,7 @@ use crate::Bytes;
 pub fn add(first: Bytes, second: Bytes) -> Option<Bytes> {
     if let (Some(a), Some(b)) = (short_value(first), short_value(second)) {
         if (-65_536..=65_535).contains(&(a + b)) {
-            return Some(store_short(a + b));
+            return Some(stored_over(first, a + b));
         }
     }
     add_full(re_stacked(first), re_stacked(second))
@@ -16,6 +16,13 @@ pub fn add(first: Bytes, second: Bytes) -> Option<Bytes> {
 
 pub fn subtract(first: Bytes, second: Bytes) -> Option<Bytes> {
     add(first, negate(second))
+}
+
+/// A2: only the second, third and fourth bytes of a short sum are stored, odd ones included.
+fn stored_over(first: Bytes, sum: i128) -> Bytes {
+    let [b1, _, _, _, b5] = first;
+    let [_, b2, b3, b4, _] = store_short(sum);
+    [b1, b2, b3, b4, b5]
 }
 
 /// The value on the short route, where odd stands for -65,536.

@@ -1,6 +1,6 @@
-//! The second implementation, from document 01 and A1 and A5 of document 02: exact whole numbers
-//! on i128. The calls here are document 01's "Reports, and which comes first"; each other module
-//! is one of its headings, or A1, or A5.
+//! The second implementation, from document 01 and A1, A2 and A5 of document 02: exact whole
+//! numbers on i128. The calls here are document 01's "Reports, and which comes first"; each other
+//! module is one of its headings, which A2 amends, or A1, or A5.
 
 pub mod addition;
 pub mod cell;

@@ -28,9 +28,10 @@ pub const COMPARED: [(u8, &str); 8] = [
 
 /// How one case came out.
 pub enum Found {
-    Agreed,
-    /// The ROM leaves the first number's fifth byte in a short sum; document 01 writes 0.
-    FifthByteKept,
+    /// With a fifth byte it is a short sum whose b5, the first number's own, is not zero.
+    Agreed {
+        fifth_byte: bool,
+    },
     Differs(String),
 }
 
@@ -65,9 +66,9 @@ pub fn one(rng: &mut Rng, machine: &mut Machine, literal: u8) -> Found {
         Err(words) => return Found::Differs(format!("{words}: {operands:02X?}")),
     };
     if found == expected {
-        Found::Agreed
-    } else if fifth_byte_kept(literal, &operands, found, expected) {
-        Found::FifthByteKept
+        Found::Agreed {
+            fifth_byte: has_fifth_byte(literal, found),
+        }
     } else {
         let operands: Vec<String> = operands.iter().map(|b| hex(b)).collect();
         Found::Differs(format!(
@@ -79,18 +80,10 @@ pub fn one(rng: &mut Rng, machine: &mut Machine, literal: u8) -> Found {
     }
 }
 
-/// On the short route the listing 003 stores b1 to b4 of the sum (3032 to 3036) and
-/// nothing in the fifth byte.
-fn fifth_byte_kept(literal: u8, operands: &[Bytes], found: Left, expected: Left) -> bool {
-    let (Left::Number(found), Left::Number(expected)) = (found, expected) else {
-        return false;
-    };
-    matches!(literal, ADD | SUBTRACT)
-        && operands[0][0] == 0
-        && operands[1][0] == 0
-        && found[..4] == expected[..4]
-        && found[4] == operands[0][4]
-        && expected[4] == 0
+/// Whether it is a short sum with a fifth byte. The full route leaves b1 zero in a zero alone,
+/// which is five zero bytes.
+fn has_fifth_byte(literal: u8, left: Left) -> bool {
+    matches!(literal, ADD | SUBTRACT) && matches!(left, Left::Number([0, _, _, _, b5]) if b5 != 0)
 }
 
 fn words(left: Left) -> String {

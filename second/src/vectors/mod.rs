@@ -4,6 +4,7 @@ mod addition;
 mod cells;
 mod deep;
 mod division;
+mod fifth_byte;
 mod lines;
 mod long;
 mod multiplication;
@@ -58,13 +59,13 @@ impl Vectors {
     }
 
     /// One literal on these operands, with the neighbours changing from case to case.
-    fn operate(&mut self, literal: u8, operands: &[Bytes]) {
+    fn operate(&mut self, literal: u8, operands: &[Bytes]) -> After {
         let (stack, depth) = self.among_neighbours(operands);
         self.case(Case {
             call: Call::Operate(literal),
             depth,
             stack,
-        });
+        })
     }
 
     /// The operands on top, with or without a slot below, a slot above and stray bytes, so
@@ -134,6 +135,7 @@ pub fn all() -> Vectors {
     paper::cases(&mut v);
     one_number::cases(&mut v);
     addition::cases(&mut v);
+    fifth_byte::cases(&mut v);
     multiplication::cases(&mut v);
     division::cases(&mut v);
     reports::cases(&mut v);
