@@ -4,4 +4,5 @@ pub mod AdditionLaws
 pub mod ShortRouteLaws
 pub mod TooBig
 pub mod MantissaLaws
+pub mod SecondHalves
 pub mod SignBytes

@@ -2,10 +2,11 @@
 use Prim.Native.Nat.{ℕ, _+_, _*_, _-_, _^_, _/_, _%_, _≤_, _<_}
 use mathlib.Core.Path.{_≡_, refl, sym, _∙_, ap, ap₂, subst, subst₂}
 use mathlib.Core.Logic.{_⊎_, inl, inr}
-use mathlib.Core.Bool.{Bool, true, false, cond, _||_}
-use borrow.Author.Tests.{le-leb, eqb-true, eqb-false}
+use mathlib.Core.Bool.{Bool, true, false, cond, _||_, or-true}
+use borrow.Author.Tests.{le-leb, eqb-true, eqb-false, ltb-true, ltb-false}
 use native.Mathlib.Nat.{eq-zero-or-pos}
 use native.Mathlib.Omega.{arith}
+use lib.Bits.{bitOr, or-lt, or-add-and, and-le-l, and-le-r}
 use lib.Dec.{ltb, eqb}
 use lib.IntN.{ℤ}
 use Rattle.number.specs.declared.Number.{Number}
@@ -19,6 +20,7 @@ use Rattle.addition.specs.declared.short.Short.the-variants.{Malformed, 
 use Rattle.addition.specs.declared.short.Halves.{Halves}
 use Rattle.addition.specs.Addition.{storedShort, shortSum, shortOfWhole, secondOf}
 use Rattle.addition.specs.ShortRouteLaws.{carryOf, wrapped, again, sum-0, sum-1, sum-2}
+use Rattle.addition.specs.SecondHalves.{halvesOf, secondHalves, addedHalves}
 
 -- what the short route answers of a sum: the three bytes that are stored, as a sign byte and a low half
 abbrev pub told : ℤ → Short
@@ -36,23 +38,38 @@ module _ (less : Bool) (x y : Number) where
   unfolding shortAnswer
   answer-told h = simp h
 
--- a word by its first byte b, of which k is one less, wrapped
-pub unformed : (w k : ℕ) → w < 2 ^ 32 → (k + 1) % 256 ≡ w / 2 ^ 24 → k < 254 → malformed (number 0 w) ≡ true
+-- a word by one more than its first byte, wrapped
+unformed : (w k : ℕ) → w < 2 ^ 32 → k ≡ (w / 2 ^ 24 + 1) % 256 → 1 < k → malformed (number 0 w) ≡ true
 unformed w k l e g = malformed-between (number 0 w) refl (omega arith) (omega arith)
 
-pub formed : (w k : ℕ) → w < 2 ^ 32 → k < 256 → (k + 1) % 256 ≡ w / 2 ^ 24 → 254 ≤ k → (malformed (number 0 w) ≡ false) × (w / 2 ^ 24 ≡ 255 * (w / 2 ^ 31))
-formed w k l m e g = go (eq-zero-or-pos (w / 2 ^ 24))
+formed : (w k : ℕ) → w < 2 ^ 32 → k ≡ (w / 2 ^ 24 + 1) % 256 → k ≤ 1 → (malformed (number 0 w) ≡ false) × (w / 2 ^ 24 ≡ 255 * (w / 2 ^ 31))
+formed w k l e g = go (eq-zero-or-pos (w / 2 ^ 24))
   where
     go : (w / 2 ^ 24 ≡ 0) ⊎ (0 < w / 2 ^ 24) → (malformed (number 0 w) ≡ false) × (w / 2 ^ 24 ≡ 255 * (w / 2 ^ 31))
     go (inl p) = (malformed-short (number 0 w) refl (omega arith), omega arith)
     go (inr p) = let last : w / 2 ^ 24 ≡ 255 = omega arith in (malformed-negative (number 0 w) refl (omega arith) l, omega arith)
 
-abbrev pub halvesOf : ℕ → ℕ → Halves
-halvesOf b h = record { byte = b; low = h }
+-- neither of two words is malformed
+pub record Formed (x y : ℕ) : Type 0 where
+  pub both : malformed (number 0 x) || malformed (number 0 y) ≡ false
+  pub first : x / 2 ^ 24 ≡ 255 * (x / 2 ^ 31)
+  pub second : y / 2 ^ 24 ≡ 255 * (y / 2 ^ 31)
 
--- the second number's sign byte and low half as they are added
-abbrev pub secondHalves : Bool → ℕ → ℕ → Halves
-secondHalves less b h = cond less (cond (eqb h 0) (halvesOf 0 h) (halvesOf (255 - b) (complementOf h))) (halvesOf b h)
+-- by one question for both
+module _ (x y i j : ℕ) (l : x < 2 ^ 32) (m : y < 2 ^ 32) (e : i ≡ (x / 2 ^ 24 + 1) % 256) (f : j ≡ (y / 2 ^ 24 + 1) % 256) where
+  pub one-unformed : 1 < bitOr i j → malformed (number 0 x) || malformed (number 0 y) ≡ true
+  one-unformed h = go (ltb 1 i) (ltb 1 j) refl refl
+    where
+      go : (a b : Bool) → ltb 1 i ≡ a → ltb 1 j ≡ b → malformed (number 0 x) || malformed (number 0 y) ≡ true
+      go true b p q = simp (unformed x i l e (ltb-true _ _ p))
+      go false true p q = ap (λ (t : Bool). malformed (number 0 x) || t) (unformed y j m f (ltb-true _ _ q)) ∙ or-true (malformed (number 0 x))
+      go false false p q = let a = ltb-false 1 i p in let b = ltb-false 1 j q in absurd (omega (arith, or-lt 1 i j (omega arith) (omega arith)))
+
+  pub both-formed : bitOr i j ≤ 1 → Formed x y
+  both-formed h =
+      let a = formed x i l e (omega (arith, or-add-and i j, and-le-r i j)) in
+      let b = formed y j m f (omega (arith, or-add-and i j, and-le-l i j)) in
+      record { both = simp (a .0, b .0); first = a .1; second = b .1 }
 
 pub record Split (n : Number) (h : Halves) : Type 0 where
   pub first : n .b1 ≡ 0
@@ -66,7 +83,7 @@ split-halves s h l g =
     record { first = refl; bytes = ap (λ (i : ℕ). 255 * i) (sym is); sign< = omega arith; lows = low-halves (255 * s) h g }
 
 -- of a number that is not malformed
-pub second-split : (less : Bool) (w : ℕ) → w < 2 ^ 32 → w / 2 ^ 24 ≡ 255 * (w / 2 ^ 31)
+second-split : (less : Bool) (w : ℕ) → w < 2 ^ 32 → w / 2 ^ 24 ≡ 255 * (w / 2 ^ 31)
     → Split (secondOf less (number 0 w)) (secondHalves less (w / 2 ^ 24) (low (number 0 w)))
 second-split false w l e = record { first = refl; bytes = e; sign< = omega arith; lows = refl }
 second-split true w l e = go (eqb (low y) 0) refl (magnitude-cases y (record { b1< = omega arith; word< = l }))
@@ -106,7 +123,7 @@ module _ (x y : Number) (b c k : ℕ) (p : b ≡ 255 * sign x) (q : c ≡ 255 * 
       go true = omega arith
       go false = omega arith
 
-  pub told-stored : (k + 1) % 256 < 2 → told (shortSum x y) ≡ Stored k (wrapped x y)
+  told-stored : (k + 1) % 256 < 2 → told (shortSum x y) ≡ Stored k (wrapped x y)
   told-stored g = go (eqb k 0) refl ∙ ap₂ Stored (halves-bytes k w (omega arith) .0) (low-halves k w (omega arith))
     where
       w : ℕ
@@ -122,5 +139,34 @@ module _ (x y : Number) (b c k : ℕ) (p : b ≡ 255 * sign x) (q : c ≡ 255 * 
           ap told (sum-1 x y (omega (arith, ways)))
           ∙ simp (le-leb (65535 - w) 65535 (omega arith)) (ap₂ (λ (i j : ℕ). Stored (b2 (halves i j)) (low (halves i j))) (sym all) (again w (omega arith)))
 
-  pub told-beyond : 2 ≤ (k + 1) % 256 → told (shortSum x y) ≡ Beyond
+  told-beyond : 2 ≤ (k + 1) % 256 → told (shortSum x y) ≡ Beyond
   told-beyond g = simp (sum-2 x y (λ e. omega (arith, ways)) (λ e. omega (arith, ways)))
+
+-- what the code makes of two words is their sum
+module _ (less : Bool) (x y : ℕ) (l : x < 2 ^ 32) (m : y < 2 ^ 32) (f : Formed x y) where
+  abbrev first : Number
+  first = number 0 x
+
+  abbrev other : Number
+  other = secondOf less (number 0 y)
+
+  abbrev halved : Halves
+  halved = secondHalves less (y / 2 ^ 24) (low (number 0 y))
+
+  abbrev sum : Halves
+  sum = addedHalves (x / 2 ^ 24) (low first) halved
+
+  split : Split other halved
+  split = second-split less y m (f .second)
+
+  lows : wrapped first other ≡ sum .low
+  lows = ap (λ (h : ℕ). (low first + h) % 2 ^ 16) (split .lows)
+
+  settled : sum .byte ≡ ((x / 2 ^ 24 + halved .byte) % 256 + carryOf (wrapped first other) (low first)) % 256
+  settled = ap (λ (w : ℕ). ((x / 2 ^ 24 + halved .byte) % 256 + carryOf w (low first)) % 256) (sym lows)
+
+  pub sum-stored : (sum .byte + 1) % 256 < 2 → told (shortSum first other) ≡ Stored (sum .byte) (sum .low)
+  sum-stored h = told-stored first other _ _ (sum .byte) (f .first) (split .bytes) (omega arith) (split .sign<) settled h ∙ ap (Stored (sum .byte)) lows
+
+  pub sum-beyond : 2 ≤ (sum .byte + 1) % 256 → told (shortSum first other) ≡ Beyond
+  sum-beyond h = told-beyond first other _ _ (sum .byte) (f .first) (split .bytes) (omega arith) (split .sign<) settled h

@@ -1,8 +1,10 @@
-// The short route of `addition`, for two numbers whose b1 is 0, each by its word.
+// The short route of `addition`, for two numbers whose b1 is 0, each by its sign byte and its low half.
 ghost use mathlib.Core.Path.{_≡_};
-ghost use Rattle.number.specs.Number.{number};
+ghost use Prim.Native.Nat.{ℕ, _^_, _/_};
+ghost use Rattle.number.specs.Number.{number, low};
 ghost use Rattle.addition.specs.ShortRouteLaws.{carryOf};
-ghost use Rattle.addition.specs.SignBytes.{secondHalves, shortAnswer};
+ghost use Rattle.addition.specs.SecondHalves.{secondHalves, addedHalves};
+ghost use Rattle.addition.specs.SignBytes.{shortAnswer};
 
 pub enum Short {
     Malformed,
@@ -17,23 +19,7 @@ struct Halves {
     low: u16,
 }
 
-// The second number as it is added. Two's complement of odd's low half is 0, so odd becomes zero.
-fn second(less: bool, byte: u8, low: u16) -> Halves
-    ensures { λ r. ⌜ r ≡ secondHalves less byte low ⌝ }
-{
-    if less {
-        if low == 0 {
-            return Halves { byte: 0, low };
-        }
-        return Halves {
-            byte: 255 - byte,
-            low: number::complement(low),
-        };
-    }
-    Halves { byte, low }
-}
-
-// The carry of a sum of sixteen-bit numbers, found from the wrapped sum.
+// The carry of a sum of sixteen-bit numbers, found from the wrapped sum. Of a difference it is the borrow.
 fn carry_of(sum: u16, first: u16) -> u8
     ensures { λ r. ⌜ r ≡ carryOf sum first ⌝ }
 {
@@ -43,25 +29,43 @@ fn carry_of(sum: u16, first: u16) -> u8
     0
 }
 
-// The sign bytes settle the seventeenth bit, as in the listing: they and the carry make 0 or 255, a sign byte again, where the sum is stored short.
-pub fn short_sum(x: u32, y: u32, less: bool) -> Short
-    ensures { λ r. ⌜ r ≡ shortAnswer less (number 0 x) (number 0 y) ⌝ }
+// The low halves and, with the carry, the sign bytes. Taking away is adding what is negated; odd is negated to zero, as zero is.
+fn total(b: u8, first: u16, c: u8, other: u16, less: bool) -> Halves
+    ensures { λ r. ⌜ r ≡ addedHalves b first (secondHalves less c other) ⌝ }
 {
-    let b = (x / 16777216) as u8;
-    let c = (y / 16777216) as u8;
-    if std::num::wrapping_sub_u8(b, 1) < 254 {
+    if less {
+        if other == 0 {
+            return Halves {
+                byte: b,
+                low: first,
+            };
+        }
+        let bytes = std::num::wrapping_sub_u8(b, c);
+        return Halves {
+            byte: std::num::wrapping_sub_u8(bytes, carry_of(first, other)),
+            low: std::num::wrapping_sub_u16(first, other),
+        };
+    }
+    let sum = std::num::wrapping_add_u16(first, other);
+    let bytes = std::num::wrapping_add_u8(b, c);
+    Halves {
+        byte: std::num::wrapping_add_u8(bytes, carry_of(sum, first)),
+        low: sum,
+    }
+}
+
+// The sign bytes settle the seventeenth bit, as in the listing: they and the carry make 0 or 255, a sign byte again, where the sum is stored short.
+pub fn short_sum(b: u8, first: u16, c: u8, other: u16, less: bool) -> Short
+    ensures { λ r. ⌜ ((x y : ℕ) → x / 2 ^ 24 ≡ b → low (number 0 x) ≡ first → y / 2 ^ 24 ≡ c → low (number 0 y) ≡ other
+        → r ≡ shortAnswer less (number 0 x) (number 0 y)) ⌝ }
+{
+    // One more than 00 or FF is 1 or 0, and one question asks both.
+    if (std::num::wrapping_add_u8(b, 1) | std::num::wrapping_add_u8(c, 1)) > 1 {
         return Short::Malformed;
     }
-    if std::num::wrapping_sub_u8(c, 1) < 254 {
-        return Short::Malformed;
-    }
-    let first = number::low_half(x);
-    let other = second(less, c, number::low_half(y));
-    let sum = std::num::wrapping_add_u16(first, other.low);
-    let bytes = std::num::wrapping_add_u8(b, other.byte);
-    let settled = std::num::wrapping_add_u8(bytes, carry_of(sum, first));
-    if std::num::wrapping_add_u8(settled, 1) < 2 {
-        return Short::Stored(settled, sum);
+    let sum = total(b, first, c, other, less);
+    if std::num::wrapping_add_u8(sum.byte, 1) < 2 {
+        return Short::Stored(sum.byte, sum.low);
     }
     Short::Beyond
 }

@@ -1,13 +1,13 @@
 -- Literals 15 and 3 by one code: which route a sum takes. No public contract cites this file.
 use Prim.Native.Nat.{ℕ}
-use mathlib.Core.Path.{_≡_, refl, sym, _∙_, ap}
+use mathlib.Core.Path.{_≡_, refl, sym, _∙_, ap, ap₂}
 use mathlib.Core.Bool.{Bool, true, false, cond, not, _||_}
 use native.Mathlib.Omega.{arith}
 use borrow.Author.Tests.{eq-eqb, ne-eqb, eqb-true, eqb-false}
 use lib.Dec.{eqb}
 use lib.IntN.{ℤ}
 use Rattle.number.specs.declared.Number.{Number}
-use Rattle.number.specs.Number.{b2, low, malformed, halves, storedOver}
+use Rattle.number.specs.Number.{number, b2, low, malformed, halves, storedOver}
 use Rattle.number.specs.NumberLaws.{over-parts}
 use Rattle.number.specs.Negate.{negated}
 use Rattle.number.specs.NegateLaws.{negate-full, negated-exponent}
@@ -61,9 +61,11 @@ module _ (less : Bool) (x y : Number) where
   unfolding routeOf
   route-second f h = simp (eq-eqb (x .b1) 0 f, ne-eqb (y .b1) 0 h)
 
-  pub route-short : x .b1 ≡ 0 → y .b1 ≡ 0 → routeOf less x y ≡ shortAnswer less x y
+  pub route-short : x .b1 ≡ 0 → y .b1 ≡ 0 → routeOf less x y ≡ shortAnswer less (number 0 (x .word)) (number 0 (y .word))
   unfolding routeOf
-  route-short f h = simp (eq-eqb (x .b1) 0 f, eq-eqb (y .b1) 0 h)
+  route-short f h =
+      simp (eq-eqb (x .b1) 0 f, eq-eqb (y .b1) 0 h)
+      (ap₂ (shortAnswer less) (ap (λ (b : ℕ). number b (x .word)) f) (ap (λ (b : ℕ). number b (y .word)) h))
 
 -- what an answer says
 abbrev pub Says : Bool → Number → Number → Short → Type 0

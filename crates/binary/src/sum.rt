@@ -40,8 +40,10 @@ fn short_route(stack: &[u8], depth: usize, flip: u32) -> Short
         return Short::Beyond;
     }
     addition::short_sum(
-        slots::word_at(stack, depth, 1),
-        slots::word_at(stack, depth, 0),
+        slots::b2_at(stack, depth, 1),
+        slots::low_at(stack, depth, 1),
+        slots::b2_at(stack, depth, 0),
+        slots::low_at(stack, depth, 0),
         flip != 0,
     )
 }

@@ -1,90 +1,63 @@
 -- `short_sum` meets its contract: each way out is a law of what the short route answers.
-use borrow.Author.Needs.{needs}
-use Prim.Native.Nat.{ℕ, _+_, _*_, _^_, _/_, _%_, _≤_, _<_}
+use Prim.Native.Nat.{ℕ, _+_, _^_, _/_, _%_, _≤_, _<_}
 use mathlib.Core.Path.{_≡_, sym, _∙_, ap, ap₂, subst}
-use mathlib.Core.Bool.{false, _||_}
 use native.Mathlib.Omega.{arith}
-use Rattle.number.specs.declared.Number.{Number}
-use Rattle.number.specs.Number.{number, malformed, low}
+use Rattle.number.specs.Number.{number, low}
 use Rattle.addition.specs.declared.short.Short.the-variants.{Stored}
 use Rattle.addition.specs.declared.short.Halves.{Halves}
-use Rattle.addition.specs.Addition.{shortSum, secondOf}
-use Rattle.addition.specs.ShortRouteLaws.{carryOf, wrapped}
-use Rattle.addition.specs.SignBytes.{secondHalves, Split, second-split, shortAnswer, told, answer-malformed, answer-told, unformed, formed, told-stored, told-beyond}
+use Rattle.addition.specs.SecondHalves.{secondHalves, addedHalves}
+use Rattle.addition.specs.SignBytes.{answer-malformed, answer-told, one-unformed, Formed, both-formed, sum-stored, sum-beyond}
 use Rattle.addition.proofs.short.short_sum.Statement.{statement}
 use Rattle.addition.proofs.short.short_sum.Tie as tie
 
-first-formed : (c : tie.Else1) → (let w = c .before .before .args .x in (malformed (number 0 w) ≡ false) × (w / 2 ^ 24 ≡ 255 * (w / 2 ^ 31)))
-first-formed c = formed _ _ (omega arith) (omega arith) (c .before .wrapping-sub-u8 .ensures) (c .if1 .left)
+-- one more than a sign byte, as it is tested
+byte : (b w k : ℕ) → k ≡ (b + 1) % 256 → w / 2 ^ 24 ≡ b → k ≡ (w / 2 ^ 24 + 1) % 256
+byte b w k e i = e ∙ ap (λ (n : ℕ). (n + 1) % 256) (sym i)
 
-second-formed : (c : tie.Else2) → (let w = c .before .before .before .before .args .y in (malformed (number 0 w) ≡ false) × (w / 2 ^ 24 ≡ 255 * (w / 2 ^ 31)))
-second-formed c = formed _ _ (omega arith) (omega arith) (c .before .wrapping-sub-u82 .ensures) (c .if2 .left)
+formed : (c : tie.Else1) (x y : ℕ) → (let a = c .before .before .before .args in x / 2 ^ 24 ≡ a .b → y / 2 ^ 24 ≡ a .c → Formed x y)
+formed c x y i p =
+    both-formed x y _ _ (omega arith) (omega arith) (byte _ x _ (c .before .before .wrapping-add-u8 .ensures) i) (byte _ y _ (c .before .wrapping-add-u82 .ensures) p) (c .if1 .left)
 
--- one more than the settled byte, wrapped, as it is tested
-stays : (k r : ℕ) → r ≡ (k + 1) % 256 → r < 2 → (k + 1) % 256 < 2
-stays k r e h = omega arith
+-- what `total` made, by the words
+summed : (c : tie.After-total) (x y : ℕ) → (let a = c .before .before .before .before .args in
+    x / 2 ^ 24 ≡ a .b → low (number 0 x) ≡ a .first → y / 2 ^ 24 ≡ a .c → low (number 0 y) ≡ a .other
+    → c .total .result ≡ addedHalves (x / 2 ^ 24) (low (number 0 x)) (secondHalves (a .less) (y / 2 ^ 24) (low (number 0 y))))
+summed c x y i j p q =
+    let a = c .before .before .before .before .args in
+    c .total .ensures
+    ∙ ap₂ (λ (b g : ℕ). addedHalves b g (secondHalves (a .less) (a .c) (a .other))) (sym i) (sym j)
+    ∙ ap₂ (λ (b g : ℕ). addedHalves (x / 2 ^ 24) (low (number 0 x)) (secondHalves (a .less) b g)) (sym p) (sym q)
 
-leaves : (k r : ℕ) → r ≡ (k + 1) % 256 → 2 ≤ r → 2 ≤ (k + 1) % 256
-leaves k r e h = omega arith
+returns : tie.Need-returns
+returns c x y i j p q =
+    sym (answer-malformed _ _ _ (one-unformed x y _ _ (omega arith) (omega arith) (byte _ x _ (c .before .before .wrapping-add-u8 .ensures) i) (byte _ y _ (c .before .wrapping-add-u82 .ensures) p) (c .if1 .taken)))
 
--- the two numbers as they are added
-abbrev x : tie.After-second → Number
-x c = number 0 (c .before .before .before .before .before .before .before .args .x)
+returns-2 : tie.Need-returns-2
+returns-2 c x y i j p q =
+    let t = c .before .before in
+    let f = formed (t .before) x y i p in
+    let same = summed t x y i j p q in
+    let small : (t .total .result .byte + 1) % 256 < 2 = omega (arith, c .before .wrapping-add-u83 .ensures, c .if2 .taken) in
+    ap (λ (h : Halves). Stored (h .byte) (h .low)) same
+    ∙ sym (sum-stored (t .before .before .before .before .args .less) x y (omega arith) (omega arith) f (subst (λ (h : Halves). (h .byte + 1) % 256 < 2) same small))
+    ∙ sym (answer-told _ _ _ (f .both))
 
-abbrev y : tie.After-second → Number
-y c = let a = c .before .before .before .before .before .before .before .args in secondOf (a .less) (number 0 (a .y))
-
-split : (c : tie.After-second) → Split (y c) (c .second .result)
-split c =
-    let e = c .before .before .before in
-    let a = e .before .before .before .before .args in
-    subst (Split (y c)) (sym (c .second .ensures ∙ ap (secondHalves (a .less) (a .y / 2 ^ 24)) (c .before .low-half2 .ensures))) (second-split (a .less) (a .y) (omega arith) (second-formed e .1))
-
-summed : (c : tie.After-wrapping-add-u16) → c .wrapping-add-u16 .result ≡ wrapped (x (c .before)) (y (c .before))
-summed c = c .wrapping-add-u16 .ensures ∙ ap₂ (λ (i j : ℕ). (i + j) % 2 ^ 16) (c .before .before .before .low-half .ensures) (sym (split (c .before) .lows))
-
-settled : (c : tie.After-wrapping-add-u82) → (let s = c .before .before .before .before in
-    c .wrapping-add-u82 .result ≡ ((x s .word / 2 ^ 24 + s .second .result .byte) % 256 + carryOf (wrapped (x s) (y s)) (low (x s))) % 256)
-settled c =
-    let w = c .before .before .before in
-    c .wrapping-add-u82 .ensures
-    ∙ ap₂ (λ (i j : ℕ). (i + j) % 256) (c .before .before .wrapping-add-u8 .ensures)
-    (c .before .carry-of .ensures ∙ ap₂ carryOf (summed w) (w .before .before .before .low-half .ensures))
-
--- neither is malformed
-told-of : (c : tie.After-second) → (let a = c .before .before .before .before .before .before .before .args in
-    shortAnswer (a .less) (number 0 (a .x)) (number 0 (a .y)) ≡ told (shortSum (x c) (y c)))
-told-of c = let e = c .before .before .before in answer-told _ _ _ (simp (first-formed (e .before .before) .0, second-formed e .0))
+returns-3 : tie.Need-returns-3
+returns-3 c x y i j p q =
+    let t = c .before .before in
+    let f = formed (t .before) x y i p in
+    let large : 2 ≤ (t .total .result .byte + 1) % 256 = omega (arith, c .before .wrapping-add-u83 .ensures, c .if2 .left) in
+    sym (sum-beyond (t .before .before .before .before .args .less) x y (omega arith) (omega arith) f (subst (λ (h : Halves). 2 ≤ (h .byte + 1) % 256) (summed t x y i j p q) large))
+    ∙ sym (answer-told _ _ _ (f .both))
 
 pub short-sum-spec : {M : Type 1} → statement M
 short-sum-spec =
     tie.close
     (tie.spec
-    (λ c. search needs)
-    (λ c. search needs)
-    (λ c κs. tt)
-    (λ c. let s = c .before in sym (answer-malformed _ _ _ (simp (unformed _ _ (omega arith) (s .wrapping-sub-u8 .ensures) (c .if1 .taken)))))
-    (λ c κs. tt)
-    (λ c. let s = c .before in sym (answer-malformed _ _ _ (simp (first-formed (s .before) .0, unformed _ _ (omega arith) (s .wrapping-sub-u82 .ensures) (c .if2 .taken)))))
     (λ c κs. tt)
     (λ c κs. tt)
+    returns
     (λ c κs. tt)
     (λ c κs. tt)
-    (λ c κs. tt)
-    (λ c κs. tt)
-    (λ c κs. tt)
-    (λ c κs. tt)
-    (λ c.
-    let d = c .before .before in
-    let s = d .before .before .before .before in
-    let k = d .wrapping-add-u82 .result in
-    let l = split s in
-    ap (Stored k) (summed (d .before .before .before))
-    ∙ sym (told-stored (x s) (y s) _ _ k (first-formed (s .before .before .before .before .before) .1) (l .bytes) (omega arith) (l .sign<) (settled d) (stays _ _ (c .before .wrapping-add-u83 .ensures) (c .if3 .taken)))
-    ∙ sym (told-of s))
-    (λ c.
-    let d = c .before .before in
-    let s = d .before .before .before .before in
-    let l = split s in
-    sym (told-beyond (x s) (y s) _ _ (d .wrapping-add-u82 .result) (first-formed (s .before .before .before .before .before) .1) (l .bytes) (omega arith) (l .sign<) (settled d) (leaves _ _ (c .before .wrapping-add-u83 .ensures) (c .if3 .left)))
-    ∙ sym (told-of s)))
+    returns-2
+    returns-3)

@@ -1,10 +1,5 @@
 -- `short_route` meets its contract: its tests are the definition's.
-use Prim.Native.Nat.{ℕ}
-use mathlib.Core.Path.{_≡_, sym, _∙_, ap, ap₂}
-use mathlib.Core.Bool.{Bool}
-use Rattle.number.specs.declared.Number.{Number}
-use Rattle.number.specs.Number.{number}
-use Rattle.addition.specs.SignBytes.{shortAnswer}
+use mathlib.Core.Path.{sym, _∙_}
 use Rattle.binary.specs.Sum.{route-first, route-second, route-short}
 use Rattle.binary.proofs.sum.short_route.Statement.{statement}
 use Rattle.binary.proofs.sum.short_route.Tie as tie
@@ -20,12 +15,13 @@ short-route-spec =
     (λ c κs. tt)
     (λ c κs. tt)
     (λ c κs. tt)
+    (λ c κs. tt)
+    (λ c κs. tt)
     (λ c.
     let w = c .before in
     let v = w .before in
-    let d = v .before .before in
-    let first = sym (d .before .if1 .left) ∙ d .before .before .b1-at .ensures in
-    let other = sym (v .before .if2 .left) ∙ d .b1-at2 .ensures in
-    c .short-sum .ensures
-    ∙ ap₂ (shortAnswer _) (ap₂ number first (v .word-at .ensures)) (ap₂ number other (w .word-at2 .ensures))
-    ∙ sym (route-short _ _ _ (sym first) (sym other))))
+    let u = v .before in
+    let t = u .before in
+    let d = t .before .before in
+    c .short-sum .ensures _ _ (sym (t .b2-at .ensures)) (sym (u .low-at .ensures)) (sym (v .b2-at2 .ensures)) (sym (w .low-at2 .ensures))
+    ∙ sym (route-short _ _ _ (sym (d .before .before .b1-at .ensures) ∙ d .before .if1 .left) (sym (d .b1-at2 .ensures) ∙ t .before .if2 .left))))
