@@ -34,7 +34,7 @@ module _ (less : Bool) (x y : Number) where
   unfolding shortAnswer
   answer-malformed h = simp h
 
-  pub answer-told : malformed x || malformed y ≡ false → shortAnswer less x y ≡ told (shortSum x (secondOf less y))
+  answer-told : malformed x || malformed y ≡ false → shortAnswer less x y ≡ told (shortSum x (secondOf less y))
   unfolding shortAnswer
   answer-told h = simp h
 
@@ -142,7 +142,7 @@ module _ (x y : Number) (b c k : ℕ) (p : b ≡ 255 * sign x) (q : c ≡ 255 * 
   told-beyond : 2 ≤ (k + 1) % 256 → told (shortSum x y) ≡ Beyond
   told-beyond g = simp (sum-2 x y (λ e. omega (arith, ways)) (λ e. omega (arith, ways)))
 
--- what the code makes of two words is their sum
+-- what is answered goes by the sign bytes and low halves, added
 module _ (less : Bool) (x y : ℕ) (l : x < 2 ^ 32) (m : y < 2 ^ 32) (f : Formed x y) where
   abbrev first : Number
   first = number 0 x
@@ -165,8 +165,13 @@ module _ (less : Bool) (x y : ℕ) (l : x < 2 ^ 32) (m : y < 2 ^ 32) (f : Formed
   settled : sum .byte ≡ ((x / 2 ^ 24 + halved .byte) % 256 + carryOf (wrapped first other) (low first)) % 256
   settled = ap (λ (w : ℕ). ((x / 2 ^ 24 + halved .byte) % 256 + carryOf w (low first)) % 256) (sym lows)
 
-  pub sum-stored : (sum .byte + 1) % 256 < 2 → told (shortSum first other) ≡ Stored (sum .byte) (sum .low)
-  sum-stored h = told-stored first other _ _ (sum .byte) (f .first) (split .bytes) (omega arith) (split .sign<) settled h ∙ ap (Stored (sum .byte)) lows
+  pub answer-stored : (sum .byte + 1) % 256 < 2 → shortAnswer less first (number 0 y) ≡ Stored (sum .byte) (sum .low)
+  answer-stored h =
+      answer-told less first (number 0 y) (f .both)
+      ∙ told-stored first other _ _ (sum .byte) (f .first) (split .bytes) (omega arith) (split .sign<) settled h
+      ∙ ap (Stored (sum .byte)) lows
 
-  pub sum-beyond : 2 ≤ (sum .byte + 1) % 256 → told (shortSum first other) ≡ Beyond
-  sum-beyond h = told-beyond first other _ _ (sum .byte) (f .first) (split .bytes) (omega arith) (split .sign<) settled h
+  pub answer-beyond : 2 ≤ (sum .byte + 1) % 256 → shortAnswer less first (number 0 y) ≡ Beyond
+  answer-beyond h =
+      answer-told less first (number 0 y) (f .both)
+      ∙ told-beyond first other _ _ (sum .byte) (f .first) (split .bytes) (omega arith) (split .sign<) settled h

@@ -6,7 +6,7 @@ use Rattle.number.specs.Number.{number, low}
 use Rattle.addition.specs.declared.short.Short.the-variants.{Stored}
 use Rattle.addition.specs.declared.short.Halves.{Halves}
 use Rattle.addition.specs.SecondHalves.{secondHalves, addedHalves}
-use Rattle.addition.specs.SignBytes.{answer-malformed, answer-told, one-unformed, Formed, both-formed, sum-stored, sum-beyond}
+use Rattle.addition.specs.SignBytes.{Formed, one-unformed, both-formed, answer-malformed, answer-stored, answer-beyond}
 use Rattle.addition.proofs.short.short_sum.Statement.{statement}
 use Rattle.addition.proofs.short.short_sum.Tie as tie
 
@@ -35,20 +35,16 @@ returns c x y i j p q =
 returns-2 : tie.Need-returns-2
 returns-2 c x y i j p q =
     let t = c .before .before in
-    let f = formed (t .before) x y i p in
     let same = summed t x y i j p q in
     let small : (t .total .result .byte + 1) % 256 < 2 = omega (arith, c .before .wrapping-add-u83 .ensures, c .if2 .taken) in
     ap (λ (h : Halves). Stored (h .byte) (h .low)) same
-    ∙ sym (sum-stored (t .before .before .before .before .args .less) x y (omega arith) (omega arith) f (subst (λ (h : Halves). (h .byte + 1) % 256 < 2) same small))
-    ∙ sym (answer-told _ _ _ (f .both))
+    ∙ sym (answer-stored (t .before .before .before .before .args .less) x y (omega arith) (omega arith) (formed (t .before) x y i p) (subst (λ (h : Halves). (h .byte + 1) % 256 < 2) same small))
 
 returns-3 : tie.Need-returns-3
 returns-3 c x y i j p q =
     let t = c .before .before in
-    let f = formed (t .before) x y i p in
     let large : 2 ≤ (t .total .result .byte + 1) % 256 = omega (arith, c .before .wrapping-add-u83 .ensures, c .if2 .left) in
-    sym (sum-beyond (t .before .before .before .before .args .less) x y (omega arith) (omega arith) f (subst (λ (h : Halves). 2 ≤ (h .byte + 1) % 256) (summed t x y i j p q) large))
-    ∙ sym (answer-told _ _ _ (f .both))
+    sym (answer-beyond (t .before .before .before .before .args .less) x y (omega arith) (omega arith) (formed (t .before) x y i p) (subst (λ (h : Halves). 2 ≤ (h .byte + 1) % 256) (summed t x y i j p q) large))
 
 pub short-sum-spec : {M : Type 1} → statement M
 short-sum-spec =
