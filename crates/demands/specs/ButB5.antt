@@ -75,25 +75,25 @@ module _ (x x′ : Number) (f : SameFour x x′) where
   unfolding formOf
   form-same = rw (f .b1-same, f .b2-same, f .b3-same, f .b4-same)
 
-  pub zero-test-same : passesZeroTest x ≡ passesZeroTest x′
+  zero-test-same : passesZeroTest x ≡ passesZeroTest x′
   unfolding passesZeroTest
   zero-test-same = rw (f .b1-same, f .b2-same, f .b3-same, f .b4-same)
 
   -- the sign is the top bit of b2
-  pub sign-same : sign x ≡ sign x′
+  sign-same : sign x ≡ sign x′
   sign-same = sym (div-div-eq-div-mul (x .word) (2 ^ 24) (2 ^ 7)) ∙ ap (λ (b : ℕ). b / 2 ^ 7) (f .b2-same) ∙ div-div-eq-div-mul (x′ .word) (2 ^ 24) (2 ^ 7)
 
-  pub low-same : low x ≡ low x′
+  low-same : low x ≡ low x′
   low-same = ap₂ (λ (h l : ℕ). 256 * h + l) (f .b4-same) (f .b3-same)
 
-  pub magnitude-same : shortMagnitude x ≡ shortMagnitude x′
+  magnitude-same : shortMagnitude x ≡ shortMagnitude x′
   magnitude-same = ap₂ (λ (s h : ℕ). cond (eqb s 0) h (complementOf h)) sign-same low-same
 
-  pub value-same : shortValue x ≡ shortValue x′
+  value-same : shortValue x ≡ shortValue x′
   unfolding shortValue
   value-same = ap₂ (λ (h s : ℕ). pos h -ℤ pos (65536 * s)) low-same sign-same
 
-  pub restacked-same : x .b1 ≡ 0 → restacked x ≡ restacked x′
+  restacked-same : x .b1 ≡ 0 → restacked x ≡ restacked x′
   restacked-same h = go (eq-zero-or-pos (shortMagnitude x))
     where
       h′ : x′ .b1 ≡ 0
