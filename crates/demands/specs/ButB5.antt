@@ -12,7 +12,7 @@ use lib.IntN.{pos, _-ℤ_}
 use lib.ListN.{getD, take}
 use Rattle.number.specs.declared.Number.{Number}
 use Rattle.number.specs.declared.form.Form.the-variants.{Short, Odd}
-use Rattle.number.specs.Number.{b2, b3, b4, wordOf, sign, low, complementOf, shortMagnitude, formOf, passesZeroTest}
+use Rattle.number.specs.Number.{b2, b3, b4, sign, low, complementOf, shortMagnitude, formOf, passesZeroTest}
 use Rattle.number.specs.NumberLaws.{places}
 use Rattle.number.specs.FormLaws.{form-bytes}
 use Rattle.number.specs.Value.{shortValue}
@@ -51,10 +51,7 @@ pub record OnlyB5 (p p′ : List ℕ) : Type 0 where
 abbrev pub SameButB5 : List ℕ → List ℕ → Type 0
 SameButB5 p p′ = (p ≡ p′) ⊎ OnlyB5 p p′
 
--- ---- the first four bytes are b1 and the upper part of the word
-
-pub upper : (b c d e : ℕ) → e < 256 → wordOf b c d e / 2 ^ 8 ≡ b * 2 ^ 16 + c * 2 ^ 8 + d
-upper b c d e h = omega arith
+-- ---- the first four bytes are b1 and the word without its last byte
 
 pub four-of : (x x′ : Number) → x .b1 ≡ x′ .b1 → x .word / 2 ^ 8 ≡ x′ .word / 2 ^ 8 → SameFour x x′
 four-of x x′ h e =

@@ -7,13 +7,14 @@ use native.Mathlib.Omega.{arith}
 use lib.ListN.{getD}
 use lib.Seq.{getD-take}
 use Rattle.number.specs.declared.Number.{Number}
+use Rattle.number.specs.NumberLaws.{upper}
 use Rattle.ending.specs.declared.answer.Answer.{Answer}
 use Rattle.slots.specs.Slots.{numberIn, bytesOf}
 use Rattle.literals.specs.Literals.{one, two, Row, operationOf}
 use Rattle.demands.specs.SlotFacts.{number-back}
 use Rattle.demands.specs.Table.{_and_, each-row}
 use Rattle.demands.specs.Independence.{Answers, done, too-big, InBytes, Kept, Carried}
-use Rattle.demands.specs.ButB5.{SameFour, Like, OnlyB5, SameButB5, upper, four-of}
+use Rattle.demands.specs.ButB5.{SameFour, Like, OnlyB5, SameButB5, four-of}
 use Rattle.demands.specs.ButB5Operations.{KeepsOne, KeepsTwo, malformed-alike, shown-alike, negation-keeps, truncation-keeps, restacking-keeps, division-keeps, multiplication-keeps}
 use Rattle.demands.specs.ButB5Sums.{addition-keeps, subtraction-keeps, int-keeps}
 

@@ -11,7 +11,7 @@ use lib.Dec.{eqb, ltb}
 use lib.IntN.{ℤ, pos, negsuc, _+ℤ_, +ℤ-comm}
 use Rattle.number.specs.declared.Number.{Number}
 use Rattle.number.specs.Number.{b2, b3, b4, b5, sign, complementOf, halves, storedOver, passesZeroTest}
-use Rattle.number.specs.NumberLaws.{word-of}
+use Rattle.number.specs.NumberLaws.{upper, word-of}
 use Rattle.number.specs.FormLaws.{form-short, form-odd, form-negative}
 use Rattle.number.specs.Value.{shortValue}
 use Rattle.number.specs.Negate.{negated}
@@ -22,7 +22,7 @@ use Rattle.truncation.specs.Truncate.{truncated}
 use Rattle.truncation.specs.Int.{shortOne, stepDown, intOf}
 use Rattle.demands.specs.Independence.{Answers, done, too-big, answers-same}
 use Rattle.demands.specs.Alike.{choice}
-use Rattle.demands.specs.ButB5.{ShortOrOdd, ButB5, Like, upper, four-of, form-same, b1-zero, parts-same}
+use Rattle.demands.specs.ButB5.{ShortOrOdd, ButB5, Like, four-of, form-same, b1-zero, parts-same}
 use Rattle.demands.specs.ButB5Operations.{KeepsOne, KeepsTwo, negated-alike, truncated-alike}
 
 -- what is stored short is short or odd

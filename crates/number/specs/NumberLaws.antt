@@ -28,12 +28,16 @@ places w = (sym (div-div-eq-div-mul w (2 ^ 8) (2 ^ 8)), sym (div-div-eq-div-mul 
 pub word-of : (n : Number) → wordOf (b2 n) (b3 n) (b4 n) (b5 n) ≡ n .word
 word-of n = omega (arith, places (n .word))
 
+-- a word without its last byte
+pub upper : (b c d e : ℕ) → e < 256 → wordOf b c d e / 2 ^ 8 ≡ b * 2 ^ 16 + c * 2 ^ 8 + d
+upper b c d e h = omega arith
+
 -- the bytes that a word is made of
-pub word-bytes : (b c d e : ℕ) → b < 256 → c < 256 → d < 256 → e < 256
+pub word-bytes : (b c d e : ℕ) → c < 256 → d < 256 → e < 256
     → (wordOf b c d e / 2 ^ 24 ≡ b) × (wordOf b c d e / 2 ^ 16 % 256 ≡ c) × (wordOf b c d e / 2 ^ 8 % 256 ≡ d) × (wordOf b c d e % 256 ≡ e)
-word-bytes b c d e p q r s =
+word-bytes b c d e q r s =
     let w = wordOf b c d e in
-    let one : w / 2 ^ 8 ≡ b * 2 ^ 16 + c * 2 ^ 8 + d = omega arith in
+    let one = upper b c d e s in
     let two : w / 2 ^ 16 ≡ b * 2 ^ 8 + c = places w .0 ∙ ap (λ (k : ℕ). k / 2 ^ 8) one ∙ omega arith in (
       places w .1 ∙ ap (λ (k : ℕ). k / 2 ^ 8) two ∙ omega arith,
       ap (λ (k : ℕ). k % 256) two ∙ omega arith,
@@ -45,7 +49,7 @@ word-bytes b c d e p q r s =
 pub swapped-word : (b c d e : ℕ) → b < 256 → c < 256 → d < 256 → e < 256 → swappedOf (wordOf e d c b) ≡ wordOf b c d e
 swapped-word b c d e p q r s =
     let w = wordOf e d c b in
-    let are = word-bytes e d c b s r q p in
+    let are = word-bytes e d c b r q p in
     ap₂ (λ (i j : ℕ). wordOf i j (w / 2 ^ 16 % 256) (w / 2 ^ 24)) (are .3) (are .2) ∙ ap₂ (wordOf b c) (are .1) (are .0)
 
 -- the word of a sign byte and a low half, the other way round
@@ -56,14 +60,7 @@ swapped-halves b h p q =
 
 -- what is written as a sign byte and a low half is read as them
 pub halves-bytes : (b h : ℕ) → h < 2 ^ 16 → (b2 (halves b h) ≡ b) × (b3 (halves b h) ≡ h % 256) × (b4 (halves b h) ≡ h / 256)
-halves-bytes b h g =
-    let w = halves b h .word in
-    let one : w / 2 ^ 8 ≡ b * 2 ^ 16 + h % 256 * 2 ^ 8 + h / 256 = omega arith in
-    let two : w / 2 ^ 16 ≡ b * 2 ^ 8 + h % 256 = places w .0 ∙ ap (λ (k : ℕ). k / 2 ^ 8) one ∙ omega arith in (
-      places w .1 ∙ ap (λ (k : ℕ). k / 2 ^ 8) two ∙ omega arith,
-      ap (λ (k : ℕ). k % 256) two ∙ omega arith,
-      ap (λ (k : ℕ). k % 256) one ∙ omega arith,
-    )
+halves-bytes b h g = let are = word-bytes b (h % 256) (h / 256) 0 (omega arith) (omega arith) (omega arith) in (are .0, are .1, are .2)
 
 pub low-halves : (b h : ℕ) → h < 2 ^ 16 → low (halves b h) ≡ h
 low-halves b h g = let are = halves-bytes b h g in ap₂ (λ (i j : ℕ). 256 * i + j) (are .2) (are .1) ∙ omega arith

@@ -27,7 +27,7 @@ pub parts-in : (s : List ℕ) (i : ℕ) → ((k : ℕ) → getD s k 0 < 256)
     → (b2 (numberIn s i) ≡ getD s (5 * i + 1) 0) × (low (numberIn s i) ≡ 256 * getD s (5 * i + 3) 0 + getD s (5 * i + 2) 0)
 unfolding numberIn
 parts-in s i b =
-    let are = word-bytes _ _ _ _ (b (5 * i + 1)) (b (5 * i + 2)) (b (5 * i + 3)) (b (5 * i + 4)) in
+    let are = word-bytes _ _ _ _ (b (5 * i + 2)) (b (5 * i + 3)) (b (5 * i + 4)) in
     (are .0, ap₂ (λ (c d : ℕ). 256 * d + c) (are .1) (are .2))
 
 -- five bytes are read: the slot
@@ -59,17 +59,17 @@ module _ (s : List ℕ) (i : ℕ) (h : 5 * i + 5 ≤ length s) where
   unfolding bytesOf
   swapped-bytes n h =
       let w = n .word in
-      let are = word-bytes (w % 256) (w / 2 ^ 8 % 256) (w / 2 ^ 16 % 256) (w / 2 ^ 24) (omega arith) (omega arith) (omega arith) (omega arith) in
+      let are = word-bytes (w % 256) (w / 2 ^ 8 % 256) (w / 2 ^ 16 % 256) (w / 2 ^ 24) (omega arith) (omega arith) (omega arith) in
       rw (are .0, are .1, are .2, are .3) refl
 
   pub put-swapped : (n : Number) → n .word < 2 ^ 32 → set (putFour s i (swappedOf (n .word))) (5 * i) (n .b1) ≡ putIn s i n
   put-swapped n h = first-last (n .b1) _ _ _ _ ∙ ap (putSlot s i) (swapped-bytes n h)
 
   -- a short number's sign byte and low half, with the first byte and the last left as they are
-  pub put-halves : ((k : ℕ) → getD s k 0 < 256) → (b h : ℕ) → b < 256 → h < 2 ^ 16
+  pub put-halves : ((k : ℕ) → getD s k 0 < 256) → (b h : ℕ) → h < 2 ^ 16
       → set (set (set s (5 * i + 1) b) (5 * i + 2) (h % 256)) (5 * i + 3) (h / 256) ≡ putIn s i (storedOver (numberIn s i) (halves b h))
   unfolding numberIn bytesOf
-  put-halves k b h p q =
+  put-halves k b h q =
       let at = 5 * i in
       let x = numberIn s i in
       let first = getD s at 0 in
@@ -79,8 +79,8 @@ module _ (s : List ℕ) (i : ℕ) (h : 5 * i + 5 ≤ length s) where
       let n2 : at + 4 ≡ at + 2 → ⊥ = λ e. omega arith in
       let n3 : at + 4 ≡ at + 3 → ⊥ = λ e. omega arith in
       let kept : getD t (at + 4) 0 ≡ last = simp getD-set-other in
-      let own = word-bytes _ _ _ _ (k (at + 1)) (k (at + 2)) (k (at + 3)) (k (at + 4)) .3 in
-      let are = word-bytes b (h % 256) (h / 256) last p (omega arith) (omega arith) (k (at + 4)) in
+      let own = word-bytes _ _ _ _ (k (at + 2)) (k (at + 3)) (k (at + 4)) .3 in
+      let are = word-bytes b (h % 256) (h / 256) last (omega arith) (omega arith) (k (at + 4)) in
       sym (set-getD t (at + 4) 0)
       ∙ ap (λ (v : ℕ). set t (at + 4) v) kept
       ∙ ap (λ (u : List ℕ). set (set (set (set u (at + 1) b) (at + 2) (h % 256)) (at + 3) (h / 256)) (at + 4) last) (sym (set-getD s at 0))
@@ -111,7 +111,7 @@ module _ (s : List ℕ) (i : ℕ) (h : 5 * i + 5 ≤ length s) where
   unfolding numberIn bytesOf
   bytes-of-slot b =
       let at = 5 * i in
-      let are = word-bytes _ _ _ _ (b (at + 1)) (b (at + 2)) (b (at + 3)) (b (at + 4)) in
+      let are = word-bytes (getD s (at + 1) 0) _ _ _ (b (at + 2)) (b (at + 3)) (b (at + 4)) in
       rw (are .0, are .1, are .2, are .3) refl ∙ sym slot-five
 
   -- so putting it there again changes nothing

@@ -23,7 +23,7 @@ returns-2 c =
     let s = a .stack .now in
     let i = a .depth - (a .above + 1) in
     let l = there c in
-    put-halves s i (omega (arith, has _ _ _ l)) (λ k. omega (arith, c .before .before .before .slice-known .given k)) (a .byte) (a .h) (omega arith) (omega arith)
+    put-halves s i (omega (arith, has _ _ _ l)) (λ k. omega (arith, c .before .before .before .slice-known .given k)) (a .byte) (a .h) (omega arith)
     ∙ ap (λ (n : Number). putIn s i (storedOver n (halves (a .byte) (a .h)))) (sym (number-at _ _ _ l))
     ∙ sym (put-there _ _ _ _ l)
 
