@@ -1,11 +1,13 @@
--- Document 01, "Addition and subtraction (003)", and document 02, A2, "The fifth byte of a short sum".
+-- Document 01, "Addition and subtraction (003)", and document 02, A2, "The fifth byte of a short sum". Which edition it is decides how -65,536 is written alone.
 use Prim.Native.Nat.{ℕ, _+_, _-_, _^_, max}
 use mathlib.Core.Bool.{Bool, true, false, cond, _&&_}
 use lib.Dec.{ltb, leb, eqb}
 use lib.IntN.{ℤ, pos, negsuc, negℤ, natAbs, _+ℤ_}
 use lib.Signed.{leZ, shrZ}
+use Rattle.edition.specs.declared.Edition.{Edition}
+use Rattle.edition.specs.declared.Edition.the-variants.{Shipped, Mended}
 use Rattle.number.specs.declared.Number.{Number}
-use Rattle.number.specs.Number.{sign, mantissa, shortOf, storedOver}
+use Rattle.number.specs.Number.{bytes, sign, mantissa, shortOf, storedOver}
 use Rattle.number.specs.Value.{signed, shortValue}
 use Rattle.number.specs.Restack.{restacked}
 use Rattle.number.specs.Negate.{negated}
@@ -31,6 +33,16 @@ shortSum x y = shortValue x +ℤ shortValue y
 
 abbrev pub shortOfWhole : ℤ → Number
 shortOfWhole z = shortOf (negative z) (natAbs z)
+
+-- -65,536 as a full number
+abbrev pub minus65536 : Number
+minus65536 = bytes 0x91 0x80 0 0 0
+
+-- A sum z that is stored short, where x is the first number. A2: the listing "stores only the second, third and fourth bytes, so the first number's own b5
+-- stays". A3: "a short sum of -65,536 is written 91 80 00 00 00".
+abbrev pub writtenShort : Edition → Number → ℤ → Number
+writtenShort Shipped x z = storedOver x (shortOfWhole z)
+writtenShort Mended x z = cond (leZ z (negℤ (pos 65536))) minus65536 (storedOver x (shortOfWhole z))
 
 -- ---- the full route
 
@@ -72,17 +84,16 @@ alignedSum x y = endedSum (wholeSum x y) (larger x y)
 unfoldable pub fullRoute : Number → Number → Answer
 fullRoute x y = alignedSum (restacked x) (restacked y)
 
--- "Short route, both b1 zero. ... A sum from -65,536 to 65,535 is stored short ... Otherwise, the full route." A2: the listing "stores only the
--- second, third and fourth bytes, so the first number's own b5 stays".
-unfoldable pub shortRoute : Number → Number → Answer
-shortRoute x y = cond (storedShort (shortSum x y)) (Done (storedOver x (shortOfWhole (shortSum x y)))) (fullRoute x y)
+-- "Short route, both b1 zero. ... A sum from -65,536 to 65,535 is stored short ... Otherwise, the full route."
+unfoldable pub shortRoute : Edition → Number → Number → Answer
+shortRoute ed x y = cond (storedShort (shortSum x y)) (Done (writtenShort ed x (shortSum x y))) (fullRoute x y)
 
-unfoldable pub sumOf : Number → Number → Answer
-sumOf x y = cond (eqb (x .b1) 0) (cond (eqb (y .b1) 0) (shortRoute x y) (fullRoute x y)) (fullRoute x y)
+unfoldable pub sumOf : Edition → Number → Number → Answer
+sumOf ed x y = cond (eqb (x .b1) 0) (cond (eqb (y .b1) 0) (shortRoute ed x y) (fullRoute x y)) (fullRoute x y)
 
 -- "Subtraction negates the second, then adds."
-unfoldable pub differenceOf : Number → Number → Answer
-differenceOf x y = sumOf x (negated y)
+unfoldable pub differenceOf : Edition → Number → Number → Answer
+differenceOf ed x y = sumOf ed x (negated y)
 
 -- the second number as it is added, by whether it is subtracted
 abbrev pub secondOf : Bool → Number → Number

@@ -6,11 +6,13 @@ use borrow.Author.Tests.{lt-ltb, le-leb, lt-leb, eq-eqb, ne-eqb, ltb-true, ltb-f
 use native.Mathlib.Omega.{arith}
 use lib.Dec.{ltb}
 use lib.IntN.{ℤ, pos, negsuc, negℤ, _+ℤ_, _-ℤ_, +ℤ-comm, +ℤ-assoc}
+use Rattle.edition.specs.declared.Edition.{Edition}
+use Rattle.edition.specs.declared.Edition.the-variants.{Shipped, Mended}
 use Rattle.number.specs.declared.Number.{Number}
 use Rattle.number.specs.Number.{sign, low, complementOf, halves, storedOver}
 use Rattle.number.specs.Value.{shortValue}
 use Rattle.ending.specs.declared.answer.Answer.the-variants.{Done}
-use Rattle.addition.specs.Addition.{storedShort, shortSum, shortOfWhole, fullRoute, shortRoute, sumOf}
+use Rattle.addition.specs.Addition.{storedShort, shortSum, minus65536, writtenShort, fullRoute, shortRoute, sumOf}
 use Rattle.addition.specs.SignedLaws.{same-sign, above, below}
 
 -- a wrapped sum is below its first part exactly when it carried
@@ -75,6 +77,21 @@ module _ (a w c n : ℕ) (t : a ≡ w + 2 ^ 16 * c) (f : w < 2 ^ 16) where
 pub again : (w : ℕ) → w < 2 ^ 16 → complementOf (suc (65535 - w)) ≡ w
 again w l = omega arith
 
+-- ---- how a sum is written, by what it comes to
+
+module _ (x : Number) where
+  written-0 : (ed : Edition) (w : ℕ) → writtenShort ed x (pos w) ≡ storedOver x (halves 0 w)
+  written-0 Shipped w = refl
+  written-0 Mended w = refl
+
+  over-again : (w : ℕ) → w < 2 ^ 16 → storedOver x (halves 255 (complementOf (suc (65535 - w)))) ≡ storedOver x (halves 255 w)
+  over-again w l = ap (λ (n : ℕ). storedOver x (halves 255 n)) (again w l)
+
+  -- one below zero; -65,536 itself is apart
+  written-1 : (ed : Edition) (w : ℕ) → 0 < w → w < 2 ^ 16 → writtenShort ed x (negsuc (65535 - w)) ≡ storedOver x (halves 255 w)
+  written-1 Shipped w p l = over-again w l
+  written-1 Mended w p l = simp (lt-leb 65535 (65535 - w) (omega arith)) (over-again w l)
+
 module _ (x y : Number) where
   abbrev carry : ℕ
   carry = carryOf (wrapped x y) (low x)
@@ -99,45 +116,49 @@ module _ (x y : Number) where
   pub sum-2 : (carry ≡ negatives x y → ⊥) → (carry + 1 ≡ negatives x y → ⊥) → storedShort (shortSum x y) ≡ false
   sum-2 h k = ap storedShort sum-as ∙ beyond-bits (low x + low y) (wrapped x y) carry (negatives x y) total (omega arith) h k
 
+module _ (ed : Edition) (x y : Number) where
   -- the short route, by what the sum comes to
-  routed : {z : ℤ} → shortSum x y ≡ z → shortRoute x y ≡ cond (storedShort z) (Done (storedOver x (shortOfWhole z))) (fullRoute x y)
+  routed : {z : ℤ} → shortSum x y ≡ z → shortRoute ed x y ≡ cond (storedShort z) (Done (writtenShort ed x z)) (fullRoute x y)
   unfolding shortRoute
-  routed e = ap (λ (w : ℤ). cond (storedShort w) (Done (storedOver x (shortOfWhole w))) (fullRoute x y)) e
+  routed e = ap (λ (w : ℤ). cond (storedShort w) (Done (writtenShort ed x w)) (fullRoute x y)) e
 
   -- ---- how a sum goes
 
-  pub first-full : (x .b1 ≡ 0 → ⊥) → sumOf x y ≡ fullRoute x y
+  pub first-full : (x .b1 ≡ 0 → ⊥) → sumOf ed x y ≡ fullRoute x y
   unfolding sumOf
   first-full h = simp (ne-eqb (x .b1) 0 h)
 
   module _ (f : x .b1 ≡ 0) where
-    pub second-full : (y .b1 ≡ 0 → ⊥) → sumOf x y ≡ fullRoute x y
+    pub second-full : (y .b1 ≡ 0 → ⊥) → sumOf ed x y ≡ fullRoute x y
     unfolding sumOf
     second-full h = simp (eq-eqb (x .b1) 0 f, ne-eqb (y .b1) 0 h)
 
     module _ (g : y .b1 ≡ 0) where
-      short : sumOf x y ≡ shortRoute x y
+      short : sumOf ed x y ≡ shortRoute ed x y
       unfolding sumOf
       short = simp (eq-eqb (x .b1) 0 f, eq-eqb (y .b1) 0 g)
 
-      pub short-stored : storedShort (shortSum x y) ≡ true → sumOf x y ≡ Done (storedOver x (shortOfWhole (shortSum x y)))
+      pub short-stored : storedShort (shortSum x y) ≡ true → sumOf ed x y ≡ Done (writtenShort ed x (shortSum x y))
       unfolding shortRoute
       short-stored h = short ∙ simp h
 
-      pub short-beyond : storedShort (shortSum x y) ≡ false → sumOf x y ≡ fullRoute x y
+      pub short-beyond : storedShort (shortSum x y) ≡ false → sumOf ed x y ≡ fullRoute x y
       unfolding shortRoute
       short-beyond h = short ∙ simp h
 
-      pub sum-positive : carryOf (wrapped x y) (low x) ≡ negatives x y → sumOf x y ≡ Done (storedOver x (halves 0 (wrapped x y)))
+      pub sum-positive : carryOf (wrapped x y) (low x) ≡ negatives x y → sumOf ed x y ≡ Done (storedOver x (halves 0 (wrapped x y)))
       sum-positive h =
-          short ∙ routed (sum-0 h) ∙ simp (le-leb (wrapped x y) 65535 (omega arith))
+          short ∙ routed (sum-0 x y h) ∙ simp (le-leb (wrapped x y) 65535 (omega arith)) (ap Done (written-0 x ed (wrapped x y)))
 
-      pub sum-negative : carryOf (wrapped x y) (low x) + 1 ≡ negatives x y → sumOf x y ≡ Done (storedOver x (halves 255 (wrapped x y)))
-      sum-negative h =
-          let w = wrapped x y in
-          let k = 65535 - w in
-          short ∙ routed (sum-1 h) ∙ simp (le-leb k 65535 (omega arith)) (ap (λ (n : ℕ). Done (storedOver x (halves 255 n))) (again w (omega arith)))
+      sum-written : carryOf (wrapped x y) (low x) + 1 ≡ negatives x y → sumOf ed x y ≡ Done (writtenShort ed x (negsuc (65535 - wrapped x y)))
+      sum-written h = short ∙ routed (sum-1 x y h) ∙ simp (le-leb (65535 - wrapped x y) 65535 (omega arith))
 
-      pub sum-beyond : (carryOf (wrapped x y) (low x) ≡ negatives x y → ⊥) → (carryOf (wrapped x y) (low x) + 1 ≡ negatives x y → ⊥) → sumOf x y ≡ fullRoute x y
-      sum-beyond h k =
-          short-beyond (sum-2 h k)
+      pub sum-negative : 0 < wrapped x y → carryOf (wrapped x y) (low x) + 1 ≡ negatives x y → sumOf ed x y ≡ Done (storedOver x (halves 255 (wrapped x y)))
+      sum-negative p h = sum-written h ∙ ap Done (written-1 x ed (wrapped x y) p (omega arith))
+
+      -- -65,536, in either edition's way
+      pub sum-least : wrapped x y ≡ 0 → carryOf (wrapped x y) (low x) + 1 ≡ negatives x y → sumOf ed x y ≡ Done (writtenShort ed x (negsuc 65535))
+      sum-least z h = sum-written h ∙ ap (λ (w : ℕ). Done (writtenShort ed x (negsuc (65535 - w)))) z
+
+      pub sum-beyond : (carryOf (wrapped x y) (low x) ≡ negatives x y → ⊥) → (carryOf (wrapped x y) (low x) + 1 ≡ negatives x y → ⊥) → sumOf ed x y ≡ fullRoute x y
+      sum-beyond h k = short-beyond (sum-2 x y h k)

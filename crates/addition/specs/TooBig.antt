@@ -9,6 +9,7 @@ use native.Mathlib.Omega.{arith}
 use lib.Dec.{leb, eqb}
 use lib.IntN.{ℤ, pos, natAbs, _+ℤ_}
 use lib.Signed.{shrZ}
+use Rattle.edition.specs.declared.Edition.{Edition}
 use Rattle.number.specs.declared.Number.{Number}
 use Rattle.number.specs.Restack.{restacked}
 use Rattle.number.specs.RestackValue.{restacked-exponent}
@@ -37,9 +38,9 @@ carried-only z e l h = go (leb (2 ^ 32) (natAbs z)) (eqb (e + 1) 256) refl refl 
     go true false p q k = absurd (eqb-false (e + 1) 256 q (omega (arith, ended-too-big-only _ _ _ _ k)))
     go false c p q k = absurd (omega (arith, ended-too-big-only _ _ _ _ k))
 
-pub sum-too-big : (x y : Number) → x .b1 < 256 → y .b1 < 256 → (sumOf x y ≡ TooBig) ↔ SumTooBig x y
+pub sum-too-big : (ed : Edition) (x y : Number) → x .b1 < 256 → y .b1 < 256 → (sumOf ed x y ≡ TooBig) ↔ SumTooBig x y
 unfolding sumOf shortRoute fullRoute alignedSum
-sum-too-big x y bx by = (
+sum-too-big ed x y bx by = (
   (λ h.
       let r = only (eqb (x .b1) 0) (eqb (y .b1) 0) (storedShort (shortSum x y)) _ (fullRoute x y) h in
       let c = carried-only _ _ (omega (arith, restacked-exponent x 255 (omega arith) (omega arith), restacked-exponent y 255 (omega arith) (omega arith))) r in
@@ -54,15 +55,15 @@ sum-too-big x y bx by = (
     only true false c n f e = e
     only false b c n f e = e
 
-    so : SumTooBig x y → sumOf x y ≡ TooBig
+    so : SumTooBig x y → sumOf ed x y ≡ TooBig
     so t = route (eq-zero-or-pos (x .b1)) (eq-zero-or-pos (y .b1)) ∙ carried-255 _ _ (t .carries) (t .exponent)
       where
-        route : (x .b1 ≡ 0) ⊎ (0 < x .b1) → (y .b1 ≡ 0) ⊎ (0 < y .b1) → sumOf x y ≡ fullRoute x y
-        route (inr p) q = first-full x y (omega arith)
-        route (inl p) (inr q) = second-full x y p (omega arith)
+        route : (x .b1 ≡ 0) ⊎ (0 < x .b1) → (y .b1 ≡ 0) ⊎ (0 < y .b1) → sumOf ed x y ≡ fullRoute x y
+        route (inr p) q = first-full ed x y (omega arith)
+        route (inl p) (inr q) = second-full ed x y p (omega arith)
         route (inl p) (inl q) =
             absurd (omega (arith, t .exponent, restacked-exponent x 160 (omega arith) (omega arith), restacked-exponent y 160 (omega arith) (omega arith)))
 
-pub difference-too-big : (x y : Number) → x .b1 < 256 → y .b1 < 256 → (differenceOf x y ≡ TooBig) ↔ SumTooBig x (negated y)
+pub difference-too-big : (ed : Edition) (x y : Number) → x .b1 < 256 → y .b1 < 256 → (differenceOf ed x y ≡ TooBig) ↔ SumTooBig x (negated y)
 unfolding differenceOf
-difference-too-big x y bx by = sum-too-big x (negated y) bx (omega (arith, negated-exponent y))
+difference-too-big ed x y bx by = sum-too-big ed x (negated y) bx (omega (arith, negated-exponent y))

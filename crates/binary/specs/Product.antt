@@ -6,6 +6,7 @@ use mathlib.Core.List.{List}
 use native.Mathlib.Omega.{arith}
 use borrow.Author.Tests.{eq-eqb}
 use lib.Bits.{bitXor}
+use Rattle.edition.specs.declared.Edition.the-variants.{Shipped}
 use Rattle.number.specs.declared.Number.{Number}
 use Rattle.number.specs.Number.{number, sign, malformed, mantissa}
 use Rattle.number.specs.NumberLaws.{Bytes}
@@ -23,7 +24,7 @@ use Rattle.literals.specs.Literals.{two, row, rowOf}
 use Rattle.literals.specs.Operate.{outcome, operateOf}
 use Rattle.literals.specs.WayLaws.{two-malformed}
 
-pub product-line : rowOf 4 ≡ row 4 (two productOf) 2 1
+pub product-line : rowOf 4 ≡ row 4 (two (λ ed. productOf)) 2 1
 unfolding rowOf
 product-line = refl
 
@@ -39,10 +40,10 @@ by-words x y h =
     let z = both-zero x y h in
     (ap (λ (b : ℕ). number b (x .word)) (sym (z .0)), ap (λ (b : ℕ). number b (y .word)) (sym (z .1)))
 
-pub pair-malformed : (s : List ℕ) (d old : ℕ) (b : Bool) → Pair s d old b → malformed (numberAt s old 1) || malformed (numberAt s old 0) ≡ true → operateOf s d 4 ≡ (outcome 3 d, s)
+pub pair-malformed : (s : List ℕ) (d old : ℕ) (b : Bool) → Pair s d old b → malformed (numberAt s old 1) || malformed (numberAt s old 0) ≡ true → operateOf Shipped s d 4 ≡ (outcome 3 d, s)
 pair-malformed s d old b p m =
-    ap (λ (k : ℕ). operateOf s k 4) (p .same)
-    ∙ two-malformed s old 4 productOf product-line (p .there) m
+    ap (λ (k : ℕ). operateOf Shipped s k 4) (p .same)
+    ∙ two-malformed Shipped s old 4 (λ ed. productOf) product-line (p .there) m
     ∙ ap (λ (k : ℕ). (outcome 3 k, s)) (sym (p .same))
 
 -- ---- the factors, where one number is full

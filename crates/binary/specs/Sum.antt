@@ -6,6 +6,8 @@ use native.Mathlib.Omega.{arith}
 use borrow.Author.Tests.{eq-eqb, ne-eqb, eqb-true, eqb-false}
 use lib.Dec.{eqb}
 use lib.IntN.{ℤ}
+use Rattle.edition.specs.declared.Edition.{Edition}
+use Rattle.edition.specs.declared.Edition.the-variants.{Shipped}
 use Rattle.number.specs.declared.Number.{Number}
 use Rattle.number.specs.Number.{number, b2, low, malformed, halves, storedOver}
 use Rattle.number.specs.NumberLaws.{over-parts}
@@ -28,8 +30,8 @@ abbrev pub literalOf : Bool → ℕ
 literalOf true = 3
 literalOf false = 15
 
-abbrev pub totalOf : Bool → Number → Number → Answer
-totalOf less x y = sumOf x (secondOf less y)
+abbrev pub totalOf : Bool → Edition → Number → Number → Answer
+totalOf less ed x y = sumOf ed x (secondOf less y)
 
 pub sum-line : (less : Bool) → rowOf (literalOf less) ≡ row (literalOf less) (two (totalOf less)) 2 1
 unfolding rowOf differenceOf
@@ -39,14 +41,14 @@ sum-line false = refl
 -- ---- which route
 
 abbrev pub GoesFull : Bool → Number → Number → Type 0
-GoesFull less x y = sumOf x (secondOf less y) ≡ fullRoute x (secondOf less y)
+GoesFull less x y = sumOf Shipped x (secondOf less y) ≡ fullRoute x (secondOf less y)
 
 pub goes-first : (less : Bool) (x y : Number) → (x .b1 ≡ 0 → ⊥) → GoesFull less x y
-goes-first less x y h = first-full x (secondOf less y) h
+goes-first less x y h = first-full Shipped x (secondOf less y) h
 
 pub goes-second : (less : Bool) (x y : Number) → x .b1 ≡ 0 → (y .b1 ≡ 0 → ⊥) → GoesFull less x y
-goes-second true x y f h = second-full x (negated y) f (λ e. h (sym (ap (λ (n : Number). n .b1) (negate-full y h)) ∙ e))
-goes-second false x y f h = second-full x y f h
+goes-second true x y f h = second-full Shipped x (negated y) f (λ e. h (sym (ap (λ (n : Number). n .b1) (negate-full y h)) ∙ e))
+goes-second false x y f h = second-full Shipped x y f h
 
 -- what the short route answers of two numbers, Beyond where one is full
 unfoldable pub routeOf : Bool → Number → Number → Short
@@ -70,7 +72,7 @@ module _ (less : Bool) (x y : Number) where
 -- what an answer says
 abbrev pub Says : Bool → Number → Number → Short → Type 0
 Says less x y Malformed = malformed x || malformed y ≡ true
-Says less x y (Stored b h) = (malformed x || malformed y ≡ false) × (sumOf x (secondOf less y) ≡ Done (storedOver x (halves b h)))
+Says less x y (Stored b h) = (malformed x || malformed y ≡ false) × (sumOf Shipped x (secondOf less y) ≡ Done (storedOver x (halves b h)))
 Says less x y Beyond = GoesFull less x y
 
 pub route-says : (less : Bool) (x y : Number) → Says less x y (routeOf less x y)
@@ -88,7 +90,7 @@ route-says less x y = go (eqb (x .b1) 0) (eqb (y .b1) 0) (malformed x || malform
         → Says less x y (cond a (cond b (cond m Malformed (cond t (Stored (b2 (shortOfWhole z)) (low (shortOfWhole z))) Beyond)) Beyond) Beyond)
     go true true true t e f g h = g
     go true true false true e f g h =
-        (g, short-stored x (secondOf less y) (eqb-true _ 0 e) (none less (eqb-true _ 0 f)) h ∙ ap Done (sym (over-parts x (shortOfWhole z))))
-    go true true false false e f g h = short-beyond x (secondOf less y) (eqb-true _ 0 e) (none less (eqb-true _ 0 f)) h
+        (g, short-stored Shipped x (secondOf less y) (eqb-true _ 0 e) (none less (eqb-true _ 0 f)) h ∙ ap Done (sym (over-parts x (shortOfWhole z))))
+    go true true false false e f g h = short-beyond Shipped x (secondOf less y) (eqb-true _ 0 e) (none less (eqb-true _ 0 f)) h
     go true false m t e f g h = goes-second less x y (eqb-true _ 0 e) (eqb-false (y .b1) 0 f)
     go false b m t e f g h = goes-first less x y (eqb-false (x .b1) 0 e)

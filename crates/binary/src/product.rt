@@ -7,12 +7,13 @@ ghost use mathlib.Core.Path.{_≡_};
 ghost use mathlib.Core.Bool.{true, false};
 ghost use Rattle.number.specs.Number.{number};
 ghost use Rattle.slots.specs.Reach.{numberAt};
+ghost use Rattle.edition.specs.declared.Edition.the-variants.{Shipped};
 ghost use Rattle.literals.specs.Operate.{outcome, operateOf};
 ghost use Rattle.multiplication.specs.Multiplication.{bothShort};
 ghost use Rattle.binary.specs.Product.{Pair, Factored};
 
 pub fn multiply(stack: &mut [u8], depth: &mut usize) -> u8
-    ensures { λ r. ⌜ operateOf (now (stack .entry)) (now (depth .entry)) 4 ≡ (outcome r (now (depth .exit)), now (stack .exit)) ⌝ }
+    ensures { λ r. ⌜ operateOf Shipped (now (stack .entry)) (now (depth .entry)) 4 ≡ (outcome r (now (depth .exit)), now (stack .exit)) ⌝ }
 {
     let old = *depth;
     if slots::lacks_at(stack, depth, table::MULTIPLY_TAKES) {
@@ -39,7 +40,7 @@ fn both_short(stack: &[u8], depth: usize) -> bool
 // Of two short numbers, or odd ones. Neither is re-stacked.
 fn short_route(stack: &mut [u8], depth: &mut usize, old: usize) -> u8
     requires { ⌜ Pair (now stack) (now depth) old true ⌝ }
-    ensures { λ r. ⌜ operateOf (now (stack .entry)) (now (depth .entry)) 4 ≡ (outcome r (now (depth .exit)), now (stack .exit)) ⌝ }
+    ensures { λ r. ⌜ operateOf Shipped (now (stack .entry)) (now (depth .entry)) 4 ≡ (outcome r (now (depth .exit)), now (stack .exit)) ⌝ }
 {
     let product = multiplication::short_product(
         slots::b2_at(stack, old, 1) as u32,
@@ -129,7 +130,7 @@ fn factored(stack: &[u8], depth: usize) -> Factors
 // Where one is full.
 fn full_route(stack: &mut [u8], depth: &mut usize, old: usize) -> u8
     requires { ⌜ Pair (now stack) (now depth) old false ⌝ }
-    ensures { λ r. ⌜ operateOf (now (stack .entry)) (now (depth .entry)) 4 ≡ (outcome r (now (depth .exit)), now (stack .exit)) ⌝ }
+    ensures { λ r. ⌜ operateOf Shipped (now (stack .entry)) (now (depth .entry)) 4 ≡ (outcome r (now (depth .exit)), now (stack .exit)) ⌝ }
 {
     let f = factored(stack, old);
     if f.malformed {

@@ -1,17 +1,19 @@
 // Literal 5.
 use crate::operand::operand;
 use crate::storing::store;
+use edition::Edition;
 use literals::table;
 ghost use mathlib.Core.Path.{_≡_};
 ghost use mathlib.Core.Bool.{false};
 ghost use Rattle.number.specs.Operand.{operand as operandOf, Unpacks};
 ghost use Rattle.slots.specs.Reach.{numberAt};
+ghost use Rattle.edition.specs.declared.Edition.the-variants.{Shipped};
 ghost use Rattle.literals.specs.Operate.{outcome, operateOf};
 ghost use Rattle.binary.specs.Quotient.{First};
 
 // A dividend that counts as zero goes the same way apart, so that any other is not asked about again.
 pub fn divide(stack: &mut [u8], depth: &mut usize) -> u8
-    ensures { λ r. ⌜ operateOf (now (stack .entry)) (now (depth .entry)) 5 ≡ (outcome r (now (depth .exit)), now (stack .exit)) ⌝ }
+    ensures { λ r. ⌜ operateOf Shipped (now (stack .entry)) (now (depth .entry)) 5 ≡ (outcome r (now (depth .exit)), now (stack .exit)) ⌝ }
 {
     let old = *depth;
     if slots::lacks_at(stack, depth, table::DIVIDE_TAKES) {
@@ -30,7 +32,7 @@ pub fn divide(stack: &mut [u8], depth: &mut usize) -> u8
 // With the first number re-stacked. A full divisor and a short one go on apart: the compiler then has each one's exponent where it is used.
 fn divided(stack: &mut [u8], depth: &mut usize, old: usize, sign: u32, m: u32, e: u32) -> u8
     requires { ⌜ First (now stack) (now depth) old sign m e ⌝ }
-    ensures { λ r. ⌜ operateOf (now (stack .entry)) (now (depth .entry)) 5 ≡ (outcome r (now (depth .exit)), now (stack .exit)) ⌝ }
+    ensures { λ r. ⌜ operateOf Shipped (now (stack .entry)) (now (depth .entry)) 5 ≡ (outcome r (now (depth .exit)), now (stack .exit)) ⌝ }
 {
     let b1 = slots::b1_at(stack, old, 0);
     if b1 != 0 {
@@ -60,9 +62,9 @@ fn quotient(
     f: u32,
 ) -> u8
     requires { ⌜ First (now stack) (now depth) old sign m e × Unpacks (numberAt (now stack) old 0) (operandOf false t n f) ⌝ }
-    ensures { λ r. ⌜ operateOf (now (stack .entry)) (now (depth .entry)) 5 ≡ (outcome r (now (depth .exit)), now (stack .exit)) ⌝ }
+    ensures { λ r. ⌜ operateOf Shipped (now (stack .entry)) (now (depth .entry)) 5 ≡ (outcome r (now (depth .exit)), now (stack .exit)) ⌝ }
 {
-    let answer = division::division(sign, m, e, t, n, f);
+    let answer = division::division(Edition::Shipped, sign, m, e, t, n, f);
     store(
         stack,
         depth,

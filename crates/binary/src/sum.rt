@@ -8,17 +8,18 @@ ghost use mathlib.Core.Logic.{_⊎_};
 ghost use mathlib.Core.Bool.{false};
 ghost use Prim.Native.Nat.{_^_};
 ghost use Rattle.slots.specs.Reach.{lacking, numberAt};
+ghost use Rattle.edition.specs.declared.Edition.the-variants.{Shipped};
 ghost use Rattle.literals.specs.Operate.{outcome, operateOf};
 ghost use Rattle.binary.specs.Sum.{flips, literalOf, routeOf, GoesFull};
 
 pub fn add(stack: &mut [u8], depth: &mut usize) -> u8
-    ensures { λ r. ⌜ operateOf (now (stack .entry)) (now (depth .entry)) 15 ≡ (outcome r (now (depth .exit)), now (stack .exit)) ⌝ }
+    ensures { λ r. ⌜ operateOf Shipped (now (stack .entry)) (now (depth .entry)) 15 ≡ (outcome r (now (depth .exit)), now (stack .exit)) ⌝ }
 {
     sum(stack, depth, 0, table::ADD_TAKES, table::ADD_LEAVES)
 }
 
 pub fn subtract(stack: &mut [u8], depth: &mut usize) -> u8
-    ensures { λ r. ⌜ operateOf (now (stack .entry)) (now (depth .entry)) 3 ≡ (outcome r (now (depth .exit)), now (stack .exit)) ⌝ }
+    ensures { λ r. ⌜ operateOf Shipped (now (stack .entry)) (now (depth .entry)) 3 ≡ (outcome r (now (depth .exit)), now (stack .exit)) ⌝ }
 {
     sum(
         stack,
@@ -51,7 +52,7 @@ fn short_route(stack: &[u8], depth: usize, flip: u32) -> Short
 // What is added to the second number's word flips its sign, for a difference, or is 0.
 fn sum(stack: &mut [u8], depth: &mut usize, flip: u32, taken: usize, left: usize) -> u8
     requires { ⌜ ((flip ≡ 0) ⊎ (flip ≡ 2 ^ 31)) × (taken ≡ 2) × (left ≡ 1) ⌝ }
-    ensures { λ r. ⌜ operateOf (now (stack .entry)) (now (depth .entry)) (literalOf (flips flip)) ≡ (outcome r (now (depth .exit)), now (stack .exit)) ⌝ }
+    ensures { λ r. ⌜ operateOf Shipped (now (stack .entry)) (now (depth .entry)) (literalOf (flips flip)) ≡ (outcome r (now (depth .exit)), now (stack .exit)) ⌝ }
 {
     let old = *depth;
     if slots::lacks_at(stack, depth, taken) {
@@ -79,7 +80,7 @@ fn full_route(
 ) -> u8
     requires { ⌜ ((flip ≡ 0) ⊎ (flip ≡ 2 ^ 31)) × (taken ≡ 2) × (left ≡ 1) × (now depth ≡ old) × (lacking (now stack) old 2 ≡ false)
         × GoesFull (flips flip) (numberAt (now stack) old 1) (numberAt (now stack) old 0) ⌝ }
-    ensures { λ r. ⌜ operateOf (now (stack .entry)) (now (depth .entry)) (literalOf (flips flip)) ≡ (outcome r (now (depth .exit)), now (stack .exit)) ⌝ }
+    ensures { λ r. ⌜ operateOf Shipped (now (stack .entry)) (now (depth .entry)) (literalOf (flips flip)) ≡ (outcome r (now (depth .exit)), now (stack .exit)) ⌝ }
 {
     let a = term(stack, old, 1, 0);
     if a.malformed {

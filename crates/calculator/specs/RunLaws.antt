@@ -7,6 +7,7 @@ use native.Mathlib.Numerals.{add-one}
 use lib.ListN.{length, getD, drop}
 use lib.Seq.{drop-cons, drop-length}
 use borrow.Author.Tests.{lt-ltb, le-ltb, eq-eqb, ne-eqb}
+use Rattle.edition.specs.declared.Edition.{Edition}
 use Rattle.slots.specs.declared.outcome.Outcome.{Outcome}
 use Rattle.slots.specs.Reports.{overLimits}
 use Rattle.literals.specs.Reports.{tooManyLiterals}
@@ -14,29 +15,29 @@ use Rattle.literals.specs.Operate.{operateOf}
 use Rattle.literals.specs.OperateLaws.{operate-kept}
 use Rattle.calculator.specs.Run.{goOn, runOf}
 
-module _ (ls : List ℕ) (i : ℕ) (s : List ℕ) (d : ℕ) where
-  pub at-end : i ≡ length ls → goOn (drop i ls) i s d ≡ (record { report = 0; position = i; depth = d }, s)
+module _ (ed : Edition) (ls : List ℕ) (i : ℕ) (s : List ℕ) (d : ℕ) where
+  pub at-end : i ≡ length ls → goOn ed (drop i ls) i s d ≡ (record { report = 0; position = i; depth = d }, s)
   unfolding goOn
   at-end h = simp (h, drop-length)
 
-  module _ (k : i < length ls) (o : Outcome) (s′ : List ℕ) (e : operateOf s d (getD ls i 0) ≡ (o, s′)) where
-    pub stops : (o .report ≡ 0 → ⊥) → goOn (drop i ls) i s d ≡ (record { report = o .report; position = i; depth = o .depth }, s′)
+  module _ (k : i < length ls) (o : Outcome) (s′ : List ℕ) (e : operateOf ed s d (getD ls i 0) ≡ (o, s′)) where
+    pub stops : (o .report ≡ 0 → ⊥) → goOn ed (drop i ls) i s d ≡ (record { report = o .report; position = i; depth = o .depth }, s′)
     unfolding goOn
-    stops h = let q = operate-kept s d _ o s′ e h in rw (drop-cons ls i 0 k) (simp (e, ne-eqb _ _ h, q .0, q .1))
+    stops h = let q = operate-kept ed s d _ o s′ e h in rw (drop-cons ls i 0 k) (simp (e, ne-eqb _ _ h, q .0, q .1))
 
-    pub goes-on : o .report ≡ 0 → goOn (drop i ls) i s d ≡ goOn (drop (i + 1) ls) (i + 1) s′ (o .depth)
+    pub goes-on : o .report ≡ 0 → goOn ed (drop i ls) i s d ≡ goOn ed (drop (i + 1) ls) (i + 1) s′ (o .depth)
     unfolding goOn
     goes-on h = rw (drop-cons ls i 0 k) (simp (e, eq-eqb _ _ h, add-one))
 
-module _ (s : List ℕ) (d : ℕ) (ls : List ℕ) where
-  pub run-over : overLimits s d ≡ true → runOf s d ls ≡ (record { report = 1; position = 0; depth = d }, s)
+module _ (ed : Edition) (s : List ℕ) (d : ℕ) (ls : List ℕ) where
+  pub run-over : overLimits s d ≡ true → runOf ed s d ls ≡ (record { report = 1; position = 0; depth = d }, s)
   unfolding runOf
   run-over h = simp h
 
-  pub run-too-long : overLimits s d ≡ false → 60000 < length ls → runOf s d ls ≡ (record { report = 1; position = 0; depth = d }, s)
+  pub run-too-long : overLimits s d ≡ false → 60000 < length ls → runOf ed s d ls ≡ (record { report = 1; position = 0; depth = d }, s)
   unfolding runOf tooManyLiterals
   run-too-long w h = simp (w, lt-ltb _ _ h)
 
-  pub run-starts : overLimits s d ≡ false → length ls ≤ 60000 → goOn ls 0 s d ≡ runOf s d ls
+  pub run-starts : overLimits s d ≡ false → length ls ≤ 60000 → goOn ed ls 0 s d ≡ runOf ed s d ls
   unfolding runOf tooManyLiterals
   run-starts w h = simp (w, le-ltb _ _ h)

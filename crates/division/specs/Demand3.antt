@@ -1,10 +1,12 @@
--- Demand 3, over the rounds of `Rounds` and in whole numbers. M and N, here m and n, are the mantissas of the re-stacked dividend and divisor, and a
+-- Demand 3 of either edition, over the rounds of `Rounds` and in whole numbers. M and N, here m and n, are the mantissas of the re-stacked dividend and divisor, and a
 -- and b their exponent bytes.
 use mathlib.Core.Path.{_≡_}
 use mathlib.Core.Bool.{cond}
 use mathlib.Core.Logic.{_↔_, _⊎_}
 use Prim.Native.Nat.{ℕ, _+_, _*_, _^_, _/_, _≤_, _<_}
 use lib.Dec.{ltb}
+use Rattle.edition.specs.declared.Edition.{Edition}
+use Rattle.edition.specs.declared.Edition.the-variants.{Shipped, Mended}
 use Rattle.number.specs.declared.Number.{Number}
 use Rattle.number.specs.Number.{mantissa}
 use Rattle.number.specs.Restack.{restacked, CountsAsZero}
@@ -29,15 +31,16 @@ module _ (m n : ℕ) where
   abbrev pub R : ℕ
   R = rounds33 m n .left
 
-  -- "M is below N and 2R is at least N"
-  abbrev pub Exception : Type 0
-  Exception = (m < n) × (n ≤ 2 * R)
+  -- "M is below N and 2R is at least N". A3: "Its demand 3 reads without the exception."
+  abbrev pub Exception : Edition → Type 0
+  Exception Shipped = (m < n) × (n ≤ 2 * R)
+  Exception Mended = ⊥
 
   -- "the result's exponent byte is E and its mantissa is the exact one rounded to nearest, halves up, except exactly when [..]: there it is one lower"
-  pub record Result (E : ℕ) (number : Number) : Type 0 where
+  pub record Result (ed : Edition) (E : ℕ) (number : Number) : Type 0 where
     pub exponent : number .b1 ≡ E
-    pub rounded : ¬ Exception → mantissa number ≡ nearest exact n
-    pub one-lower : Exception → mantissa number + 1 ≡ nearest exact n
+    pub rounded : ¬ Exception ed → mantissa number ≡ nearest exact n
+    pub one-lower : Exception ed → mantissa number + 1 ≡ nearest exact n
 
   pub record Digits : Type 0 where
     pub mantissas : Mantissas m n
@@ -46,12 +49,12 @@ module _ (m n : ℕ) where
     pub remainder : R < n
 
   -- E is any natural number with E + b = a + `added`; below 0 there is none.
-  pub record Demand3 (a b : ℕ) (answer : Answer) : Type 0 where
+  pub record Demand3 (ed : Edition) (a b : ℕ) (answer : Answer) : Type 0 where
     pub digits : Digits
     -- "Division gives report 6 exactly when E is above 255."
     pub report6 : (answer ≡ TooBig) ↔ (255 + b < a + added)
     -- "When E is 1 to 255, [the result]"
-    pub result : (E : ℕ) → E + b ≡ a + added → 1 ≤ E → E ≤ 255 → (number : Number) × (answer ≡ Done number) × Result E number
+    pub result : (E : ℕ) → E + b ≡ a + added → 1 ≤ E → E ≤ 255 → (number : Number) × (answer ≡ Done number) × Result ed E number
 
 -- "number too big: division when the divisor counts as zero, or an exponent byte above 255": where neither counts as zero, E's
 abbrev pub QuotientTooBig : Number → Number → Type 0

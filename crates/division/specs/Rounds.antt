@@ -3,6 +3,8 @@
 use mathlib.Core.Bool.{cond}
 use Prim.Native.Nat.{ℕ, zero, suc, _+_, _*_, _-_, _^_, _%_, _≤_, _<_}
 use lib.Dec.{leb}
+use Rattle.edition.specs.declared.Edition.{Edition}
+use Rattle.edition.specs.declared.Edition.the-variants.{Shipped, Mended}
 
 -- "mantissas M and N, whole numbers from 2^31 to 2^32 - 1"
 pub record Mantissas (m n : ℕ) : Type 0 where
@@ -35,6 +37,8 @@ rounds m n (suc later) = tried n (leftDoubled (rounds m n later))
 abbrev pub rounds33 : ℕ → ℕ → Trial
 rounds33 m n = rounds m n 32
 
--- "The 34th is 0, since the ROM tries again without doubling": `digit34-zero` is the law that it is 0.
-abbrev pub digit34 : ℕ → Trial → ℕ
-digit34 n s = tried n s .digits % 2
+-- "The 34th is 0, since the ROM tries again without doubling": `digit34-zero` is the law that it is 0. A3: "the 34th division digit is tried after a
+-- doubling".
+abbrev pub digit34 : Edition → ℕ → Trial → ℕ
+digit34 Shipped n s = tried n s .digits % 2
+digit34 Mended n s = tried n (leftDoubled s) .digits % 2

@@ -5,8 +5,10 @@ use Prim.Native.Nat.{ℕ, zero, suc, _+_, _*_, _-_, _^_, _/_, _%_, _≤_, _<_}
 use native.Mathlib.Nat.{add-mul, suc-mul, mul-assoc, pow-suc, mul-le-mul-right}
 use native.Mathlib.Omega.{arith}
 use lib.Dec.{leb}
-use lib.Arith.{digits-div}
+use lib.Arith.{digits-div, digits-mod}
 use borrow.Author.Tests.{le-leb, lt-leb, leb-true, leb-false}
+use Rattle.edition.specs.declared.Edition.{Edition}
+use Rattle.edition.specs.declared.Edition.the-variants.{Shipped, Mended}
 use Rattle.division.specs.Rounds.{Trial, trial, tried, leftDoubled, rounds, digit34}
 
 -- In units of n, the digits and what is left write v.
@@ -45,9 +47,24 @@ module _ (n : ℕ) (s : Trial) where
   digit-stays : s .left < n → tried n s .digits % 2 ≡ 0
   digit-stays h = rw (tried-stays h) (omega arith)
 
--- "The 34th is 0": after the rounds, what is left is below n.
-pub digit34-zero : (n : ℕ) (s : Trial) → s .left < n → digit34 n s ≡ 0
-digit34-zero n s h = digit-stays n _ (omega arith)
+  digit-goes : n ≤ s .left → tried n s .digits % 2 ≡ 1
+  digit-goes h = rw (tried-goes h) (omega arith)
+
+module _ (n : ℕ) (s : Trial) where
+  pub digit34-lt : (ed : Edition) → digit34 ed n s < 2
+  digit34-lt Shipped = omega arith
+  digit34-lt Mended = omega arith
+
+  -- "The 34th is 0": after the rounds, what is left is below n.
+  pub digit34-zero : s .left < n → digit34 Shipped n s ≡ 0
+  digit34-zero h = digit-stays n _ (omega arith)
+
+  -- Tried after a doubling, it is 1 where twice what is left is n or more.
+  pub digit34-goes : n ≤ 2 * s .left → digit34 Mended n s ≡ 1
+  digit34-goes h = digit-goes n (leftDoubled s) h
+
+  pub digit34-stays : 2 * s .left < n → digit34 Mended n s ≡ 0
+  digit34-stays h = digit-stays n (leftDoubled s) h
 
 -- The quotient law, for any number of rounds: Q * N + R = M * 2^k, and R is below N.
 pub quotient-law : (m n later : ℕ) → m < 2 * n → Writes n (m * 2 ^ later) (rounds m n later)
@@ -62,6 +79,10 @@ module _ {n v : ℕ} {s : Trial} (h : Writes n v s) where
   -- the digits are the quotient of one division
   pub writes-div : v / n ≡ s .digits
   writes-div = ap (λ (x : ℕ). x / n) (sym (h .whole)) ∙ digits-div (s .digits) (h .less)
+
+  -- and what is left is its remainder
+  pub writes-mod : v % n ≡ s .left
+  writes-mod = ap (λ (x : ℕ). x % n) (sym (h .whole)) ∙ digits-mod (s .digits) (h .less)
 
   pub writes-at-least : (c : ℕ) → c * n ≤ v → c ≤ s .digits
   writes-at-least c g =

@@ -7,6 +7,7 @@ use native.Mathlib.Omega.{arith}
 use borrow.Author.Tests.{lt-ltb, le-ltb, ltb-true, ltb-false}
 use lib.Dec.{ltb}
 use lib.ListN.{length, getD}
+use Rattle.edition.specs.declared.Edition.{Edition}
 use Rattle.number.specs.declared.Number.{Number}
 use Rattle.slots.specs.Slots.{slot, bytesOf, putSlot}
 use Rattle.slots.specs.SlotLaws.{length-putSlot, slot-five, bytes-of-slot}
@@ -31,16 +32,16 @@ duplicates : rowOf 49 ≡ row 49 duplicate 1 2
 unfolding rowOf
 duplicates = refl
 
-module _ (s : List ℕ) (d : ℕ) where
+module _ (ed : Edition) (s : List ℕ) (d : ℕ) where
   abbrev Bytes : Type 0
   Bytes = (k : ℕ) → getD s k 0 < 256
 
-  pub exchange-lacking : lacking s d 2 ≡ true → (q : ℕ) → q ≡ refusalOf s d 2 → operateOf s d 1 ≡ (outcome q d, s)
+  pub exchange-lacking : lacking s d 2 ≡ true → (q : ℕ) → q ≡ refusalOf s d 2 → operateOf ed s d 1 ≡ (outcome q d, s)
   unfolding notInTable
-  exchange-lacking = way-lacking s d 1 exchange 2 2 exchanges refl
+  exchange-lacking = way-lacking ed s d 1 exchange 2 2 exchanges refl
 
   -- both numbers are read before either is put in the other's place
-  pub exchange-done : Bytes → lacking s d 2 ≡ false → operateOf s d 1 ≡ (outcome 0 d, putAt (putAt s d 1 (numberAt s d 0)) d 0 (numberAt s d 1))
+  pub exchange-done : Bytes → lacking s d 2 ≡ false → operateOf ed s d 1 ≡ (outcome 0 d, putAt (putAt s d 1 (numberAt s d 0)) d 0 (numberAt s d 1))
   unfolding notInTable noRoomFor malformedOperand tooBig bytesAfter
   exchange-done b a =
       let h = has s d 2 a in
@@ -56,37 +57,37 @@ module _ (s : List ℕ) (d : ℕ) where
       put-there t d 0 (numberAt s d 1) (lacking-same s t d 1 long ∙ a1)
       ∙ ap (λ (n : Number). putSlot t (d - 1) (bytesOf n)) (number-at s d 1 a)
       ∙ ap (putSlot t (d - 1)) (bytes-of-slot s (d - 2) i2 b) in
-      way-done s d 1 exchange 2 2 exchanges refl (h .0) (h .1) refl refl refl
+      way-done ed s d 1 exchange 2 2 exchanges refl (h .0) (h .1) refl refl refl
       ∙ ap₂ (λ (p : ℕ) (u : List ℕ). (outcome 0 p, u)) same (sym (ap (λ (u : List ℕ). putAt u d 0 (numberAt s d 1)) inner ∙ outer))
 
-  pub delete-lacking : lacking s d 1 ≡ true → (q : ℕ) → q ≡ refusalOf s d 1 → operateOf s d 2 ≡ (outcome q d, s)
+  pub delete-lacking : lacking s d 1 ≡ true → (q : ℕ) → q ≡ refusalOf s d 1 → operateOf ed s d 2 ≡ (outcome q d, s)
   unfolding notInTable
-  delete-lacking = way-lacking s d 2 delete 1 0 deletes refl
+  delete-lacking = way-lacking ed s d 2 delete 1 0 deletes refl
 
-  pub delete-done : lacking s d 1 ≡ false → operateOf s d 2 ≡ (outcome 0 (d - 1 + 0), s)
+  pub delete-done : lacking s d 1 ≡ false → operateOf ed s d 2 ≡ (outcome 0 (d - 1 + 0), s)
   unfolding notInTable noRoomFor malformedOperand tooBig bytesAfter
-  delete-done a = let h = has s d 1 a in way-done s d 2 delete 1 0 deletes refl (h .0) (h .1) refl refl refl
+  delete-done a = let h = has s d 1 a in way-done ed s d 2 delete 1 0 deletes refl (h .0) (h .1) refl refl refl
 
   -- The depth after a duplicate is a machine word, which may have wrapped.
   module _ (after : ℕ) (e : after ≡ (d + 1) % 2 ^ 64) where
-    pub duplicate-lacking : lacking s after 2 ≡ true → (q : ℕ) → q ≡ refusalOf s d 1 → operateOf s d 49 ≡ (outcome q d, s)
+    pub duplicate-lacking : lacking s after 2 ≡ true → (q : ℕ) → q ≡ refusalOf s d 1 → operateOf ed s d 49 ≡ (outcome q d, s)
     unfolding notInTable noRoomFor refusalOf noRoom
     duplicate-lacking a q i = go (overLimits s d) (ltb d 1) refl refl
       where
-        lower : lacking s d 1 ≡ true → operateOf s d 49 ≡ (outcome q d, s)
-        lower l = way-lacking s d 49 duplicate 1 2 duplicates refl l q i
+        lower : lacking s d 1 ≡ true → operateOf ed s d 49 ≡ (outcome q d, s)
+        lower l = way-lacking ed s d 49 duplicate 1 2 duplicates refl l q i
 
-        go : (b c : Bool) → overLimits s d ≡ b → ltb d 1 ≡ c → operateOf s d 49 ≡ (outcome q d, s)
+        go : (b c : Bool) → overLimits s d ≡ b → ltb d 1 ≡ c → operateOf ed s d 49 ≡ (outcome q d, s)
         go true c j k = lower (lacking-over s d 1 j)
         go false true j k = lower (lacking-few s d 1 (ltb-true d 1 k))
         go false false j k =
             let w = within-of s d j in
             let four : q ≡ 4 = i ∙ simp (j, k) in
             let over : ¬ (5 * (d + 1) ≤ length s) = λ f. absurd (let z : _≡_ {A = ℕ} 0 1 = cc (a, enough s after 2 (record { short = w .short; deep = omega (arith, e, w .short, w .deep) }) (omega (arith, e, w .short, w .deep, ltb-false d 1 k))) in omega arith) in
-            way-no-room s d 49 duplicate 1 2 duplicates refl w (ltb-false d 1 k) (lt-ltb (length s) (5 * (d + 1)) (omega (arith, over)))
+            way-no-room ed s d 49 duplicate 1 2 duplicates refl w (ltb-false d 1 k) (lt-ltb (length s) (5 * (d + 1)) (omega (arith, over)))
             ∙ ap (λ (p : ℕ). (outcome p d, s)) (sym four)
 
-    pub duplicate-done : Bytes → d < 2 ^ 64 → lacking s after 2 ≡ false → operateOf s d 49 ≡ (outcome 0 after, putAt s after 0 (numberAt s after 1))
+    pub duplicate-done : Bytes → d < 2 ^ 64 → lacking s after 2 ≡ false → operateOf ed s d 49 ≡ (outcome 0 after, putAt s after 0 (numberAt s after 1))
     unfolding notInTable noRoomFor malformedOperand tooBig bytesAfter noRoom
     duplicate-done b l a =
         let h = has s after 2 a in
@@ -96,7 +97,7 @@ module _ (s : List ℕ) (d : ℕ) where
         let is : d - 1 + 2 ≡ after = omega (arith, next, h) in
         let top : d ≡ after - 1 = omega (arith, next) in
         let below : d - 1 ≡ after - 2 = omega (arith, next) in
-        way-done s d 49 duplicate 1 2 duplicates refl w (omega (arith, next, h)) (le-ltb (length s) (5 * (d + 1)) (omega (arith, next, h .0 .deep))) refl refl
+        way-done ed s d 49 duplicate 1 2 duplicates refl w (omega (arith, next, h)) (le-ltb (length s) (5 * (d + 1)) (omega (arith, next, h .0 .deep))) refl refl
         ∙ ap₂ (λ (p : ℕ) (t : List ℕ). (outcome 0 p, t)) is
         (ap₂ (λ (i j : ℕ). putSlot s i (slot s j)) top below
         ∙ sym (ap (putAt s after 0) (number-at s after 1 a) ∙ put-slot-there s after 0 (after - 2) b (omega (arith, h .0 .deep, h .1)) a1))

@@ -4,6 +4,7 @@ use mathlib.Core.Path.{_≡_, ap}
 use mathlib.Core.Bool.{true}
 use mathlib.Core.List.{List}
 use borrow.Author.Tests.{ne-eqb}
+use Rattle.edition.specs.declared.Edition.{Edition}
 use Rattle.slots.specs.declared.outcome.Outcome.{Outcome}
 use Rattle.slots.specs.Reports.{overLimits}
 use Rattle.slots.specs.Push.{settled}
@@ -12,22 +13,22 @@ use Rattle.literals.specs.Literals.{unknown, Row, row, rowOf, operationO
 use Rattle.literals.specs.Reports.{notInTable, reportOf}
 use Rattle.literals.specs.Operate.{outcome, bytesAfter, operateOf}
 
-module _ (s : List ℕ) (d l : ℕ) where
-  pub operate-refused : {k : ℕ} → reportOf s d l ≡ suc k → operateOf s d l ≡ (outcome (suc k) d, s)
+module _ (ed : Edition) (s : List ℕ) (d l : ℕ) where
+  pub operate-refused : {k : ℕ} → reportOf ed s d l ≡ suc k → operateOf ed s d l ≡ (outcome (suc k) d, s)
   unfolding operateOf settled
   operate-refused h = simp h
 
-  pub operate-over : overLimits s d ≡ true → operateOf s d l ≡ (outcome 1 d, s)
+  pub operate-over : overLimits s d ≡ true → operateOf ed s d l ≡ (outcome 1 d, s)
   unfolding reportOf
   operate-over h = operate-refused (simp h)
 
-  pub operate-done : reportOf s d l ≡ 0 → operateOf s d l ≡ (outcome 0 (d - takes l + leaves l), bytesAfter (operationOf l) s d)
+  pub operate-done : reportOf ed s d l ≡ 0 → operateOf ed s d l ≡ (outcome 0 (d - takes l + leaves l), bytesAfter ed (operationOf l) s d)
   unfolding operateOf settled
   operate-done h = simp h
 
-  pub operate-kept : (o : Outcome) (s′ : List ℕ) → operateOf s d l ≡ (o, s′) → (o .report ≡ 0 → ⊥) → (s′ ≡ s) × (o .depth ≡ d)
+  pub operate-kept : (o : Outcome) (s′ : List ℕ) → operateOf ed s d l ≡ (o, s′) → (o .report ≡ 0 → ⊥) → (s′ ≡ s) × (o .depth ≡ d)
   unfolding operateOf
-  operate-kept o s′ e h = settled-refused (reportOf s d l) d s _ _ o s′ e h
+  operate-kept o s′ e h = settled-refused (reportOf ed s d l) d s _ _ o s′ e h
 
 -- a literal that is in no row
 module _ (l : ℕ) (a : l ≡ 1 → ⊥) (b : l ≡ 2 → ⊥) (c : l ≡ 3 → ⊥) (d : l ≡ 4 → ⊥) (e : l ≡ 5 → ⊥) (f : l ≡ 15 → ⊥) (g : l ≡ 27 → ⊥) (h : l ≡ 39 → ⊥)

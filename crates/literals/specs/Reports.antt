@@ -5,7 +5,10 @@ use mathlib.Core.Bool.{Bool, true, false, _||_}
 use mathlib.Core.List.{List, [], _∷_}
 use lib.Dec.{ltb}
 use lib.ListN.{length}
-use Rattle.number.specs.Number.{malformed}
+use Rattle.edition.specs.declared.Edition.{Edition}
+use Rattle.edition.specs.declared.Edition.the-variants.{Shipped, Mended}
+use Rattle.number.specs.declared.Number.{Number}
+use Rattle.number.specs.Number.{malformed, odd}
 use Rattle.ending.specs.declared.answer.Answer.{Answer}
 use Rattle.ending.specs.declared.answer.Answer.the-variants.{Done, TooBig}
 use Rattle.slots.specs.Slots.{top, lower}
@@ -34,38 +37,43 @@ noRoomFor (one f) s d = false
 noRoomFor (two f) s d = false
 noRoomFor unknown s d = false
 
+-- A3: "In this edition an odd operand is malformed (report 3)"
+abbrev pub malformedIn : Edition → Number → Bool
+malformedIn Shipped x = malformed x
+malformedIn Mended x = malformed x || odd x
+
 -- 3: "an operand of 3, 5, 15, 27, 39, 58, 61 is malformed" (A1: "4 joins its list")
-unfoldable pub malformedOperand : Operation → List ℕ → ℕ → Bool
-malformedOperand (one f) s d = malformed (top s d)
-malformedOperand (two f) s d = malformed (lower s d) || malformed (top s d)
-malformedOperand exchange s d = false
-malformedOperand delete s d = false
-malformedOperand duplicate s d = false
-malformedOperand unknown s d = false
+unfoldable pub malformedOperand : Edition → Operation → List ℕ → ℕ → Bool
+malformedOperand ed (one f) s d = malformedIn ed (top s d)
+malformedOperand ed (two f) s d = malformedIn ed (lower s d) || malformedIn ed (top s d)
+malformedOperand ed exchange s d = false
+malformedOperand ed delete s d = false
+malformedOperand ed duplicate s d = false
+malformedOperand ed unknown s d = false
 
 unfoldable pub isTooBig : Answer → Bool
 isTooBig TooBig = true
 isTooBig (Done n) = false
 
 -- 6: "number too big". The arithmetic says which: a divisor that counts as zero, or an exponent byte above 255.
-unfoldable pub tooBig : Operation → List ℕ → ℕ → Bool
-tooBig (one f) s d = isTooBig (f (top s d))
-tooBig (two f) s d = isTooBig (f (lower s d) (top s d))
-tooBig exchange s d = false
-tooBig delete s d = false
-tooBig duplicate s d = false
-tooBig unknown s d = false
+unfoldable pub tooBig : Edition → Operation → List ℕ → ℕ → Bool
+tooBig ed (one f) s d = isTooBig (f ed (top s d))
+tooBig ed (two f) s d = isTooBig (f ed (lower s d) (top s d))
+tooBig ed exchange s d = false
+tooBig ed delete s d = false
+tooBig ed duplicate s d = false
+tooBig ed unknown s d = false
 
 -- the rows for a literal, in the order of the checks, and its report
-abbrev pub rows : List ℕ → ℕ → ℕ → List When
-rows s d l =
+abbrev pub rows : Edition → List ℕ → ℕ → ℕ → List When
+rows ed s d l =
     when 1 (overLimits s d)
     ∷ when 5 (notInTable (operationOf l))
     ∷ when 2 (ltb d (takes l))
     ∷ when 4 (noRoomFor (operationOf l) s d)
-    ∷ when 3 (malformedOperand (operationOf l) s d)
-    ∷ when 6 (tooBig (operationOf l) s d)
+    ∷ when 3 (malformedOperand ed (operationOf l) s d)
+    ∷ when 6 (tooBig ed (operationOf l) s d)
     ∷ []
 
-unfoldable pub reportOf : List ℕ → ℕ → ℕ → ℕ
-reportOf s d l = first (rows s d l)
+unfoldable pub reportOf : Edition → List ℕ → ℕ → ℕ → ℕ
+reportOf ed s d l = first (rows ed s d l)

@@ -50,6 +50,15 @@ isMalformed Odd = false
 unfoldable pub malformed : Number → Bool
 malformed x = isMalformed (formOf x)
 
+abbrev pub isOdd : Form → Bool
+isOdd Odd = true
+isOdd Full = false
+isOdd Short = false
+isOdd Malformed = false
+
+unfoldable pub odd : Number → Bool
+odd x = isOdd (formOf x)
+
 -- The sign, 1 for negative: "the top bit of b2 is the sign". It is a short number's sign too, whose b2 is 00 or FF.
 abbrev pub sign : Number → ℕ
 sign x = x .word / 2 ^ 31

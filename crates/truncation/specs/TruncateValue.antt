@@ -8,6 +8,7 @@ use native.Mathlib.Omega.{arith}
 use lib.Dec.{ltb}
 use lib.IntN.{ℤ, pos, _*ℤ_}
 use lib.Pow.{pow-add, pow-pos, pow-mono}
+use Rattle.edition.specs.declared.Edition.{Edition}
 use Rattle.number.specs.declared.Number.{Number}
 use Rattle.number.specs.Number.{sign, mantissa, shortOf, zeros}
 use Rattle.number.specs.NumberLaws.{Bytes}
@@ -25,7 +26,7 @@ scaledValue x = cond (ltb 0 (x .b1)) (fullValue x) (shortValue x *ℤ pos (2 ^ 1
 whole-part : (m k e : ℕ) → k + e ≡ 160 → m * 2 ^ e / 2 ^ 160 ≡ m / 2 ^ k
 whole-part m k e h = ap (λ (n : ℕ). m * 2 ^ e / n) (ap (λ (n : ℕ). 2 ^ n) (sym h) ∙ pow-add 2 k e) ∙ mul-div-mul-right m (2 ^ k) (pow-pos e)
 
-module _ (x : Number) (b : Bytes x) (f : 0 < x .b1) (t : taken65536 x ≡ false) where
+module _ (ed : Edition) (x : Number) (b : Bytes x) (f : 0 < x .b1) (t : taken65536 ed x ≡ false) where
   abbrev s : ℕ
   s = sign x
 
@@ -72,11 +73,11 @@ module _ (x : Number) (b : Bytes x) (f : 0 < x .b1) (t : taken65536 x ≡ false)
       (ap (signed s) (parts ∙ ap (λ (i : ℕ). i * 2 ^ 160) (sym (ap (λ (i : ℕ). i / 2 ^ 160) parts ∙ mul-div-cancel n (pow-pos 160)))))
 
   -- The value of what truncation leaves is the magnitude's whole part, with the sign.
-  pub truncate-value : Whole (truncated x)
-  truncate-value = ap scaledValue (truncate-full x f) ∙ go (ltb (x .b1) 129) (ltb (x .b1) 145) (ltb (x .b1) 160) refl refl refl
+  pub truncate-value : Whole (truncated ed x)
+  truncate-value = ap scaledValue (truncate-full ed x f) ∙ go (ltb (x .b1) 129) (ltb (x .b1) 145) (ltb (x .b1) 160) refl refl refl
     where
-      go : (p q r : Bool) → ltb (x .b1) 129 ≡ p → ltb (x .b1) 145 ≡ q → ltb (x .b1) 160 ≡ r → Whole (truncatedFull x)
-      go true q r i j l = ap scaledValue (truncate-below-one x (ltb-true _ _ i)) ∙ none (ltb-true _ _ i)
-      go false true r i j l = ap scaledValue (truncate-to-short x (ltb-false _ _ i) (ltb-true _ _ j)) ∙ short (ltb-false _ _ i) (ltb-true _ _ j)
-      go false false true i j l = ap scaledValue (truncate-cleared x (ltb-false _ _ j) t (ltb-true _ _ l)) ∙ large (ltb-false _ _ j) (ltb-true _ _ l)
-      go false false false i j l = ap scaledValue (truncate-whole x (ltb-false _ _ j) t (ltb-false _ _ l)) ∙ unchanged (ltb-false _ _ l)
+      go : (p q r : Bool) → ltb (x .b1) 129 ≡ p → ltb (x .b1) 145 ≡ q → ltb (x .b1) 160 ≡ r → Whole (truncatedFull ed x)
+      go true q r i j l = ap scaledValue (truncate-below-one ed x (ltb-true _ _ i)) ∙ none (ltb-true _ _ i)
+      go false true r i j l = ap scaledValue (truncate-to-short ed x (ltb-false _ _ i) (ltb-true _ _ j)) ∙ short (ltb-false _ _ i) (ltb-true _ _ j)
+      go false false true i j l = ap scaledValue (truncate-cleared ed x (ltb-false _ _ j) t (ltb-true _ _ l)) ∙ large (ltb-false _ _ j) (ltb-true _ _ l)
+      go false false false i j l = ap scaledValue (truncate-whole ed x (ltb-false _ _ j) t (ltb-false _ _ l)) ∙ unchanged (ltb-false _ _ l)

@@ -5,6 +5,7 @@ use crate::cutting::truncate;
 use number::Number;
 ghost use mathlib.Core.Path.{_≡_};
 ghost use Prim.Native.Nat.{_≤_, _<_};
+ghost use Rattle.edition.specs.declared.Edition.the-variants.{Shipped};
 ghost use Rattle.number.specs.Number.{sign};
 ghost use Rattle.ending.specs.declared.answer.Answer.the-variants.{Done};
 ghost use Rattle.truncation.specs.Int.{intOf};
@@ -12,7 +13,7 @@ ghost use Rattle.truncation.specs.Int.{intOf};
 // Of a negative number from 1 on whose last bit is worth less than 2.
 fn floor_of(x: Number) -> Number
     requires { ⌜ (sign x ≡ 1) × (129 ≤ x .b1) × (x .b1 < 160) ⌝ }
-    ensures { λ r. ⌜ intOf x ≡ Done r ⌝ }
+    ensures { λ r. ⌜ intOf Shipped x ≡ Done r ⌝ }
 {
     let e = x.b1;
     let word = x.word;
@@ -56,7 +57,7 @@ fn floor_of(x: Number) -> Number
 }
 
 pub fn int(x: Number) -> Number
-    ensures { λ r. ⌜ intOf x ≡ Done r ⌝ }
+    ensures { λ r. ⌜ intOf Shipped x ≡ Done r ⌝ }
 {
     let e = x.b1;
     let word = x.word;

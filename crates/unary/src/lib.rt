@@ -2,10 +2,11 @@
 use literals::table;
 use number::Number;
 ghost use mathlib.Core.Path.{_≡_};
+ghost use Rattle.edition.specs.declared.Edition.the-variants.{Shipped};
 ghost use Rattle.literals.specs.Operate.{outcome, operateOf};
 
 pub fn negate(stack: &mut [u8], depth: &usize) -> u8
-    ensures { λ r. ⌜ operateOf (now (stack .entry)) (now (depth .entry)) 27 ≡ (outcome r (now (depth .entry)), now (stack .exit)) ⌝ }
+    ensures { λ r. ⌜ operateOf Shipped (now (stack .entry)) (now (depth .entry)) 27 ≡ (outcome r (now (depth .entry)), now (stack .exit)) ⌝ }
 {
     let old = *depth;
     if slots::lacks_at(stack, depth, table::NEGATE_TAKES) {
@@ -32,7 +33,7 @@ pub fn negate(stack: &mut [u8], depth: &usize) -> u8
 }
 
 pub fn re_stack(stack: &mut [u8], depth: &usize) -> u8
-    ensures { λ r. ⌜ operateOf (now (stack .entry)) (now (depth .entry)) 61 ≡ (outcome r (now (depth .entry)), now (stack .exit)) ⌝ }
+    ensures { λ r. ⌜ operateOf Shipped (now (stack .entry)) (now (depth .entry)) 61 ≡ (outcome r (now (depth .entry)), now (stack .exit)) ⌝ }
 {
     let old = *depth;
     if slots::lacks_at(stack, depth, table::RE_STACK_TAKES) {
@@ -59,7 +60,7 @@ pub fn re_stack(stack: &mut [u8], depth: &usize) -> u8
 }
 
 pub fn truncate(stack: &mut [u8], depth: &usize) -> u8
-    ensures { λ r. ⌜ operateOf (now (stack .entry)) (now (depth .entry)) 58 ≡ (outcome r (now (depth .entry)), now (stack .exit)) ⌝ }
+    ensures { λ r. ⌜ operateOf Shipped (now (stack .entry)) (now (depth .entry)) 58 ≡ (outcome r (now (depth .entry)), now (stack .exit)) ⌝ }
 {
     let old = *depth;
     if slots::lacks_at(stack, depth, table::TRUNCATE_TAKES) {
@@ -82,7 +83,7 @@ pub fn truncate(stack: &mut [u8], depth: &usize) -> u8
 }
 
 pub fn int(stack: &mut [u8], depth: &usize) -> u8
-    ensures { λ r. ⌜ operateOf (now (stack .entry)) (now (depth .entry)) 39 ≡ (outcome r (now (depth .entry)), now (stack .exit)) ⌝ }
+    ensures { λ r. ⌜ operateOf Shipped (now (stack .entry)) (now (depth .entry)) 39 ≡ (outcome r (now (depth .entry)), now (stack .exit)) ⌝ }
 {
     let old = *depth;
     if slots::lacks_at(stack, depth, table::INT_TAKES) {

@@ -5,6 +5,8 @@ use mathlib.Core.Path.{_≡_, refl, sym, _∙_, ap, ap₂}
 use mathlib.Core.Bool.{false}
 use native.Mathlib.Nat.{mod-eq-of-lt}
 use native.Mathlib.Omega.{arith}
+use Rattle.edition.specs.declared.Edition.{Edition}
+use Rattle.edition.specs.declared.Edition.the-variants.{Shipped}
 use Rattle.number.specs.declared.Number.{Number}
 use Rattle.number.specs.Number.{number}
 use Rattle.number.specs.FormLaws.{malformed-full}
@@ -19,8 +21,8 @@ use Rattle.literals.specs.WayLaws.{one-lacking, one-malformed, one-put, one-kep
 use Rattle.unary.proofs.re_stack.Statement.{statement}
 use Rattle.unary.proofs.re_stack.Tie as tie
 
-abbrev f : Number → Answer
-f = λ x. Done (restacked x)
+abbrev f : Edition → Number → Answer
+f = λ ed x. Done (restacked x)
 
 there : (c : tie.Else1) → lacking (c .before .before .before .before .before .args .stack .now) (c .before .before .before .before .before .args .depth .now) 1 ≡ false
 there c = sym (c .before .lacks-at .ensures) ∙ c .if1 .left
@@ -39,18 +41,18 @@ re-stack-spec =
     (λ c κs. tt)
     (λ c κs. tt)
     (λ c. search needs)
-    (λ c. let t = c .before .before in one-lacking _ _ 61 f refl (sym (t .before .lacks-at .ensures) ∙ t .if1 .taken) _ (c .refusal .ensures))
+    (λ c. let t = c .before .before in one-lacking Shipped _ _ 61 f refl (sym (t .before .lacks-at .ensures) ∙ t .if1 .taken) _ (c .refusal .ensures))
     (λ c κs. tt)
     (λ c. search needs)
     (λ c.
     let full : ¬ (_≡_ {A = ℕ} _ 0) = λ z. c .if2 .taken (c .before .b1-at .ensures ∙ z) in
-    one-kept _ _ 61 f refl (there (c .before .before .before)) (λ k. omega (arith, c .before .before .before .before .before .before .before .slice-known .given k)) (malformed-full _ full) (ap Done (restack-full _ full)))
+    one-kept Shipped _ _ 61 f refl (there (c .before .before .before)) (λ k. omega (arith, c .before .before .before .before .before .before .before .slice-known .given k)) (malformed-full _ full) (ap Done (restack-full _ full)))
     (λ c κs. tt)
     (λ c. omega arith)
     (λ c κs. tt)
     (λ c κs. tt)
     (λ c. search needs)
-    (λ c. one-malformed _ _ 61 f refl (there (c .before .before .before .before .before .before .before .before .before)) (sym (unpacked (c .before) .form) ∙ c .if3 .taken))
+    (λ c. one-malformed Shipped _ _ 61 f refl (there (c .before .before .before .before .before .before .before .before .before)) (sym (unpacked (c .before) .form) ∙ c .if3 .taken))
     (λ c κs. tt)
     (λ c. search needs)
     (λ c.
@@ -58,7 +60,7 @@ re-stack-spec =
     let o = c .before .before .before .before .before .before in
     let u = unpacked (o .before) in
     let m = sym (u .form) ∙ o .if3 .left in
-    one-put _ _ 61 f refl (there (c .before .before .before .before .before .before .before .before .before .before .before .before .before .before .before)) refl refl m (ap Done (sym (u .stands m) ∙ u .none (p .before .before .if4 .taken))) (p .put-at .ensures))
+    one-put Shipped _ _ 61 f refl (there (c .before .before .before .before .before .before .before .before .before .before .before .before .before .before .before)) refl refl m (ap Done (sym (u .stands m) ∙ u .none (p .before .before .if4 .taken))) (p .put-at .ensures))
     (λ c. omega arith)
     (λ c. omega arith)
     (λ c. omega arith)
@@ -69,4 +71,4 @@ re-stack-spec =
     let o = c .before .before .before .before .before .before .before .before .before in
     let u = unpacked (o .before) in
     let m = sym (u .form) ∙ o .if3 .left in
-    one-put _ _ 61 f refl (there (c .before .before .before .before .before .before .before .before .before .before .before .before .before .before .before .before .before .before)) refl refl m (ap Done (sym (u .stands m) ∙ ap₂ number (sym (mod-eq-of-lt (u .byte))) (omega arith))) (p .put-at2 .ensures)))
+    one-put Shipped _ _ 61 f refl (there (c .before .before .before .before .before .before .before .before .before .before .before .before .before .before .before .before .before .before)) refl refl m (ap Done (sym (u .stands m) ∙ ap₂ number (sym (mod-eq-of-lt (u .byte))) (omega arith))) (p .put-at2 .ensures)))

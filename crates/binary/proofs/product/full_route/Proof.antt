@@ -2,6 +2,7 @@
 use borrow.Author.Needs.{needs}
 use Prim.Native.Nat.{ℕ}
 use mathlib.Core.Path.{refl, sym, _∙_, ap, ap₂}
+use Rattle.edition.specs.declared.Edition.the-variants.{Shipped}
 use Rattle.multiplication.specs.Multiplication.{productOf}
 use Rattle.literals.specs.Operate.{operateOf}
 use Rattle.binary.specs.Stored.{storedOf, two-stored}
@@ -18,8 +19,8 @@ returns-2 c =
     let i = f .before .before .before in
     let m = sym (f .factored .ensures .form) ∙ e .if1 .left in
     let is = a .multiplication .ensures ∙ f .factored .ensures .is m in
-    ap (λ (d : ℕ). operateOf (i .args .stack .now) d 4) (i .pre .same)
-    ∙ two-stored _ _ _ productOf product-line (i .pre .there) m _ _ _ (ap₂ (storedOf (i .args .stack .now)) (sym (i .pre .same)) (sym is) ∙ p .store .ensures)
+    ap (λ (d : ℕ). operateOf Shipped (i .args .stack .now) d 4) (i .pre .same)
+    ∙ two-stored Shipped _ _ _ (λ ed. productOf) product-line (i .pre .there) m _ _ _ (ap₂ (storedOf (i .args .stack .now)) (sym (i .pre .same)) (sym is) ∙ p .store .ensures)
 
 pub full-route-spec : {M : Type 1} → statement M
 full-route-spec =

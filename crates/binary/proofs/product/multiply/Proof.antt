@@ -2,6 +2,7 @@
 use borrow.Author.Needs.{needs}
 use mathlib.Core.Path.{_≡_, refl, sym, _∙_}
 use mathlib.Core.Bool.{false}
+use Rattle.edition.specs.declared.Edition.the-variants.{Shipped}
 use Rattle.multiplication.specs.Multiplication.{productOf}
 use Rattle.slots.specs.Reach.{lacking}
 use Rattle.literals.specs.WayLaws.{two-lacking}
@@ -20,7 +21,7 @@ multiply-spec =
     (λ c κs. tt)
     (λ c κs. tt)
     (λ c. search needs)
-    (λ c. let t = c .before .before in two-lacking _ _ _ productOf product-line (sym (t .before .lacks-at .ensures) ∙ t .if1 .taken) _ (c .refusal .ensures))
+    (λ c. let t = c .before .before in two-lacking Shipped _ _ _ (λ ed. productOf) product-line (sym (t .before .lacks-at .ensures) ∙ t .if1 .taken) _ (c .refusal .ensures))
     (λ c κs. tt)
     (λ c κs. let t = c .before .before in record { same = refl; there = there (t .before .before .before); forms = sym (t .before .both-short .ensures) ∙ t .if2 .taken })
     (λ c. search needs)

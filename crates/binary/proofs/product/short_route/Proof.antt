@@ -4,6 +4,7 @@ use Prim.Native.Nat.{ℕ, _-_}
 use mathlib.Core.Path.{refl, sym, _∙_, ap, ap₂, subst₂}
 use native.Mathlib.Nat.{mod-eq-of-lt}
 use native.Mathlib.Omega.{arith}
+use Rattle.edition.specs.declared.Edition.the-variants.{Shipped}
 use Rattle.number.specs.declared.Number.{Number}
 use Rattle.multiplication.specs.Multiplication.{productOf}
 use Rattle.multiplication.specs.ShortProduct.{Multiplied}
@@ -35,8 +36,8 @@ returns-2 c =
     let i = q .before .before .before .before .before .before .before .before .before .before in
     let m = multiplied q in
     let k = sym (m .form) ∙ e .if1 .left in
-    ap (λ (n : ℕ). operateOf (i .args .stack .now) n 4) (i .pre .same)
-    ∙ two-stored _ _ _ productOf product-line (i .pre .there) k _ _ _ (ap₂ (storedOf (i .args .stack .now)) (sym (i .pre .same)) (m .is k) ∙ p .store .ensures)
+    ap (λ (n : ℕ). operateOf Shipped (i .args .stack .now) n 4) (i .pre .same)
+    ∙ two-stored Shipped _ _ _ (λ ed. productOf) product-line (i .pre .there) k _ _ _ (ap₂ (storedOf (i .args .stack .now)) (sym (i .pre .same)) (m .is k) ∙ p .store .ensures)
 
 pub short-route-spec : {M : Type 1} → statement M
 short-route-spec =

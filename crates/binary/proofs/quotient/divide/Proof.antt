@@ -3,6 +3,7 @@ use borrow.Author.Needs.{needs}
 use mathlib.Core.Path.{_≡_, refl, sym, _∙_}
 use mathlib.Core.Bool.{false}
 use native.Mathlib.Omega.{arith}
+use Rattle.edition.specs.declared.Edition.the-variants.{Shipped}
 use Rattle.division.specs.Division.{quotientOf}
 use Rattle.slots.specs.Reach.{lacking}
 use Rattle.literals.specs.WayLaws.{two-lacking, two-malformed}
@@ -21,10 +22,10 @@ divide-spec =
     (λ c κs. tt)
     (λ c κs. tt)
     (λ c. search needs)
-    (λ c. let t = c .before .before in two-lacking _ _ _ quotientOf division-line (sym (t .before .lacks-at .ensures) ∙ t .if1 .taken) _ (c .refusal .ensures))
+    (λ c. let t = c .before .before in two-lacking Shipped _ _ _ quotientOf division-line (sym (t .before .lacks-at .ensures) ∙ t .if1 .taken) _ (c .refusal .ensures))
     (λ c κs. tt)
     (λ c. search needs)
-    (λ c. two-malformed _ _ _ quotientOf division-line (there (c .before .before .before)) (simp (sym (c .before .operand .ensures .form) ∙ c .if2 .taken)))
+    (λ c. two-malformed Shipped _ _ _ quotientOf division-line (there (c .before .before .before)) (simp (sym (c .before .operand .ensures .form) ∙ c .if2 .taken)))
     (λ c κs.
     let t = c .before .before in
     let n = t .before .before in

@@ -5,6 +5,7 @@ use mathlib.Core.Path.{_≡_, sym, _∙_, ap, ap₂, subst}
 use mathlib.Core.Bool.{false}
 use native.Mathlib.Nat.{mod-eq-of-lt}
 use native.Mathlib.Omega.{arith}
+use Rattle.edition.specs.declared.Edition.the-variants.{Shipped}
 use Rattle.number.specs.declared.Number.{Number}
 use Rattle.number.specs.Number.{number}
 use Rattle.number.specs.Operand.{operand, Unpacks, full-operand, unpacks-short}
@@ -34,8 +35,8 @@ returns-2 : tie.Need-returns-2
 returns-2 c =
     let i = c .before .before .before .before .before .before .before .before .before .before in
     let x = i .pre in
-    ap (λ (k : ℕ). operateOf (i .args .stack .now) k 5) (x .same)
-    ∙ two-malformed _ _ _ quotientOf division-line (x .there) (simp (sym (x .first .form), sym (short (c .before) .form) ∙ c .if2 .taken))
+    ap (λ (k : ℕ). operateOf Shipped (i .args .stack .now) k 5) (x .same)
+    ∙ two-malformed Shipped _ _ _ quotientOf division-line (x .there) (simp (sym (x .first .form), sym (short (c .before) .form) ∙ c .if2 .taken))
     ∙ ap (λ (k : ℕ). (outcome 3 k, i .args .stack .now)) (sym (x .same))
 
 pub divided-spec : {M : Type 1} → statement M

@@ -2,6 +2,7 @@
 use borrow.Author.Needs.{needs}
 use Prim.Native.Nat.{ℕ}
 use mathlib.Core.Path.{_≡_, refl, sym, _∙_, ap, ap₂}
+use Rattle.edition.specs.declared.Edition.the-variants.{Shipped}
 use Rattle.number.specs.Operand.{packed-byte}
 use Rattle.division.specs.Division.{quotientOf, restackedQuotient}
 use Rattle.literals.specs.Operate.{operateOf}
@@ -20,9 +21,9 @@ returns c =
     let y = i .pre .1 in
     let m = sym (x .first .form) in
     let k = sym (y .form) in
-    let is = a .division .ensures ∙ ap₂ restackedQuotient (packed-byte _ _ _ (x .first .byte) ∙ x .first .stands m) (packed-byte _ _ _ (y .byte) ∙ y .stands k) in
-    ap (λ (d : ℕ). operateOf (i .args .stack .now) d 5) (x .same)
-    ∙ two-stored _ _ _ quotientOf division-line (x .there) (simp (m, k)) _ _ _ (ap₂ (storedOf (i .args .stack .now)) (sym (x .same)) (sym is) ∙ p .store .ensures)
+    let is = a .division .ensures ∙ ap₂ (restackedQuotient Shipped) (packed-byte _ _ _ (x .first .byte) ∙ x .first .stands m) (packed-byte _ _ _ (y .byte) ∙ y .stands k) in
+    ap (λ (d : ℕ). operateOf Shipped (i .args .stack .now) d 5) (x .same)
+    ∙ two-stored Shipped _ _ _ quotientOf division-line (x .there) (simp (m, k)) _ _ _ (ap₂ (storedOf (i .args .stack .now)) (sym (x .same)) (sym is) ∙ p .store .ensures)
 
 pub quotient-spec : {M : Type 1} → statement M
 quotient-spec =

@@ -5,6 +5,7 @@ use mathlib.Core.Path.{_≡_, refl, sym, _∙_, ap, ap₂}
 use mathlib.Core.Logic.{inl}
 use mathlib.Core.Bool.{false}
 use denote.Ref.{now}
+use Rattle.edition.specs.declared.Edition.the-variants.{Shipped}
 use Rattle.number.specs.Number.{malformed}
 use Rattle.addition.specs.Addition.{secondOf}
 use Rattle.slots.specs.Reach.{numberAt}
@@ -28,8 +29,8 @@ returns c =
     let i = c .before .before .before .before in
     let s = i .args .stack .now in
     let l = flips (i .args .flip) in
-    ap (λ (k : ℕ). operateOf s k (literalOf l)) (i .pre .3)
-    ∙ two-malformed _ _ _ (totalOf l) (sum-line l) (i .pre .4) (simp (sym (first (c .before)) ∙ c .if1 .taken))
+    ap (λ (k : ℕ). operateOf Shipped s k (literalOf l)) (i .pre .3)
+    ∙ two-malformed Shipped _ _ _ (totalOf l) (sum-line l) (i .pre .4) (simp (sym (first (c .before)) ∙ c .if1 .taken))
     ∙ ap (λ (k : ℕ). (outcome 3 k, s)) (sym (i .pre .3))
 
 returns-2 : tie.Need-returns-2
@@ -39,8 +40,8 @@ returns-2 c =
     let i = e .before .before .before .before in
     let s = i .args .stack .now in
     let l = flips (i .args .flip) in
-    ap (λ (k : ℕ). operateOf s k (literalOf l)) (i .pre .3)
-    ∙ two-malformed _ _ _ (totalOf l) (sum-line l) (i .pre .4) (simp (sym (first (e .before)) ∙ e .if1 .left, sym (second d) ∙ c .if2 .taken))
+    ap (λ (k : ℕ). operateOf Shipped s k (literalOf l)) (i .pre .3)
+    ∙ two-malformed Shipped _ _ _ (totalOf l) (sum-line l) (i .pre .4) (simp (sym (first (e .before)) ∙ e .if1 .left, sym (second d) ∙ c .if2 .taken))
     ∙ ap (λ (k : ℕ). (outcome 3 k, s)) (sym (i .pre .3))
 
 returns-3 : tie.Need-returns-3
@@ -57,8 +58,8 @@ returns-3 c =
     let m = sym (first t) ∙ e .if1 .left in
     let o = sym (second d) ∙ n .if2 .left in
     let is = a .aligned-sum .ensures ∙ terms-summed _ _ (t .term .result) (d .term2 .result) (t .term .ensures .0 ∙ term-formed _ _ m) (d .term2 .ensures .0 ∙ term-formed _ _ o) (t .term .ensures .1) (d .term2 .ensures .1) ∙ sym (i .pre .5) in
-    ap (λ (k : ℕ). operateOf s k (literalOf l)) (i .pre .3)
-    ∙ two-stored _ _ _ (totalOf l) (sum-line l) (i .pre .4) (simp (m, o)) _ _ _ (ap₂ (storedOf s) (sym (i .pre .3)) (sym is) ∙ p .store .ensures)
+    ap (λ (k : ℕ). operateOf Shipped s k (literalOf l)) (i .pre .3)
+    ∙ two-stored Shipped _ _ _ (totalOf l) (sum-line l) (i .pre .4) (simp (m, o)) _ _ _ (ap₂ (storedOf s) (sym (i .pre .3)) (sym is) ∙ p .store .ensures)
 
 pub full-route-spec : {M : Type 1} → statement M
 full-route-spec =

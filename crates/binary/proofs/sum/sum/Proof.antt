@@ -6,6 +6,7 @@ use mathlib.Core.Bool.{false}
 use mathlib.Core.List.{List}
 use native.Mathlib.Omega.{arith}
 use denote.Ref.{now}
+use Rattle.edition.specs.declared.Edition.the-variants.{Shipped}
 use Rattle.addition.specs.declared.short.Short.{Short}
 use Rattle.slots.specs.Reach.{lacking, refusalOf, numberAt, putAt}
 use Rattle.slots.specs.ReachLaws.{has}
@@ -29,14 +30,14 @@ returns c =
     let t = c .before .before in
     let i = t .before .before .before .before .before .before in
     let l = flips (i .args .flip) in
-    two-lacking _ _ _ (totalOf l) (sum-line l) (ap (lacking _ _) (sym (i .pre .1)) ∙ sym (t .before .lacks-at .ensures) ∙ t .if1 .taken) _
+    two-lacking Shipped _ _ _ (totalOf l) (sum-line l) (ap (lacking _ _) (sym (i .pre .1)) ∙ sym (t .before .lacks-at .ensures) ∙ t .if1 .taken) _
     (c .refusal .ensures ∙ ap (refusalOf _ _) (i .pre .1))
 
 returns-2 : tie.Need-returns-2
 returns-2 c =
     let r = c .before .before in
     let l = flips (r .before .before .before .before .before .before .before .before .args .flip) in
-    two-malformed _ _ _ (totalOf l) (sum-line l) (there (r .before .before)) (said r _ (c .enum-told .given .1))
+    two-malformed Shipped _ _ _ (totalOf l) (sum-line l) (there (r .before .before)) (said r _ (c .enum-told .given .1))
 
 returns-3 : tie.Need-returns-3
 returns-3 c =
@@ -49,7 +50,7 @@ returns-3 c =
     let l = flips (i .args .flip) in
     let t = said r _ (k .short .given .1) in
     let after : d - 1 ≡ d - i .args .taken + i .args .left = omega (arith, i .pre, has _ _ _ (there (r .before .before))) in
-    two-done _ _ _ (totalOf l) (sum-line l) (there (r .before .before)) (t .0) _ (t .1) ∙ ap₂ (λ (e : ℕ) (u : List ℕ). (outcome 0 e, u)) after (sym (p .put-halves-at .ensures))
+    two-done Shipped _ _ _ (totalOf l) (sum-line l) (there (r .before .before)) (t .0) _ (t .1) ∙ ap₂ (λ (e : ℕ) (u : List ℕ). (outcome 0 e, u)) after (sym (p .put-halves-at .ensures))
 
 pub sum-spec : {M : Type 1} → statement M
 sum-spec =

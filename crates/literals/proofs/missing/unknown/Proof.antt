@@ -7,4 +7,4 @@ use Rattle.literals.proofs.missing.unknown.Statement.{statement}
 use Rattle.literals.proofs.missing.unknown.Tie as tie
 
 pub unknown-spec : {M : Type 1} → statement M
-unknown-spec = tie.close (tie.spec (λ c κs. tt) (λ c l h. operate-over _ _ l (sym (c .before .over-limits .ensures) ∙ c .if1 .taken)) (λ c l h. operate-refused _ _ l (report-5 _ _ l (within-of _ _ (sym (c .before .over-limits .ensures) ∙ c .if1 .left)) h)))
+unknown-spec = tie.close (tie.spec (λ c κs. tt) (λ c ed l h. operate-over ed _ _ l (sym (c .before .over-limits .ensures) ∙ c .if1 .taken)) (λ c ed l h. operate-refused ed _ _ l (report-5 ed _ _ l (within-of _ _ (sym (c .before .over-limits .ensures) ∙ c .if1 .left)) h)))

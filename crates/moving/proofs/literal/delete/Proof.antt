@@ -12,7 +12,7 @@ delete-spec =
     (tie.spec
     (λ c κs. tt)
     (λ c κs. tt)
-    (λ c. let t = c .before in delete-lacking _ _ (sym (t .before .lacks .ensures) ∙ t .if1 .taken) _ (c .refusal .ensures))
+    (λ c ed. let t = c .before in delete-lacking ed _ _ (sym (t .before .lacks .ensures) ∙ t .if1 .taken) _ (c .refusal .ensures))
     (λ c. omega (arith, has _ _ _ (sym (c .before .lacks .ensures) ∙ c .if1 .left)))
     (λ c. omega (arith, has _ _ _ (sym (c .before .lacks .ensures) ∙ c .if1 .left)))
-    (λ c. delete-done _ _ (sym (c .before .lacks .ensures) ∙ c .if1 .left)))
+    (λ c ed. delete-done ed _ _ (sym (c .before .lacks .ensures) ∙ c .if1 .left)))

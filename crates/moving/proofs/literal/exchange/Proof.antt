@@ -13,13 +13,13 @@ use Rattle.moving.proofs.literal.exchange.Statement.{statement}
 use Rattle.moving.proofs.literal.exchange.Tie as tie
 
 returns-2 : tie.Need-returns-2
-returns-2 c =
+returns-2 c ed =
     let p = c .before .before .before .before .before .before in
     let e = c .before .before .before .before .before .before .before .before .before .before .before .before .before .before .before .before in
     let i = e .before .before .before .before .before in
     let top = ap₂ number (c .before .before .before .before .before .before .before .before .before .before .b1-at2 .ensures) (c .before .before .before .before .before .before .before .before .word-at2 .ensures) in
     let lower = ap₂ number (c .before .before .before .before .before .before .before .before .before .before .before .before .before .before .b1-at .ensures) (c .before .before .before .before .before .before .before .before .before .before .before .before .word-at .ensures) in
-    exchange-done _ _ (λ k. omega (arith, c .before .before .before .before .before .before .before .before .before .before .before .before .before .before .before .before .before .before .before .before .slice-known .given k)) (sym (e .before .lacks-at .ensures) ∙ e .if1 .left)
+    exchange-done ed _ _ (λ k. omega (arith, c .before .before .before .before .before .before .before .before .before .before .before .before .before .before .before .before .before .before .before .before .slice-known .given k)) (sym (e .before .lacks-at .ensures) ∙ e .if1 .left)
     ∙ ap (λ (t : List ℕ). (outcome 0 (i .args .depth .now), t))
     (sym (c .before .before .put-at2 .ensures
     ∙ ap₂ (λ (t : List ℕ) (n : Number). putAt t (i .args .depth .now) 0 n) (p .put-at .ensures ∙ ap (putAt (i .args .stack .now) (i .args .depth .now) 1) top) lower))
@@ -31,7 +31,7 @@ exchange-spec =
     (λ c κs. tt)
     (λ c κs. tt)
     (λ c. search needs)
-    (λ c. let t = c .before .before in exchange-lacking _ _ (sym (t .before .lacks-at .ensures) ∙ t .if1 .taken) _ (c .refusal .ensures))
+    (λ c ed. let t = c .before .before in exchange-lacking ed _ _ (sym (t .before .lacks-at .ensures) ∙ t .if1 .taken) _ (c .refusal .ensures))
     (λ c κs. tt)
     (λ c κs. tt)
     (λ c κs. tt)

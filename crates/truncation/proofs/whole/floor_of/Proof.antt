@@ -6,12 +6,13 @@ use mathlib.Core.Bool.{false}
 use native.Mathlib.Nat.{mod-eq-of-lt, lt-of-le-of-lt, one-mul}
 use native.Mathlib.Omega.{arith}
 use lib.Pow.{pow-mono, shl-exact}
+use Rattle.edition.specs.declared.Edition.the-variants.{Shipped}
 use Rattle.number.specs.declared.Number.{Number}
 use Rattle.number.specs.Number.{number, mantissa, fullOf, halves}
 use Rattle.ending.specs.declared.answer.Answer.the-variants.{Done}
 use Rattle.truncation.specs.Truncate.{taken65536, cleared}
 use Rattle.truncation.specs.BitLaws.{cleared-le, dropped-lt}
-use Rattle.truncation.specs.FloorLaws.{int-taken, cut-short, short-up}
+use Rattle.truncation.specs.FloorLaws.{int-taken, cut-short, short-down}
 use Rattle.truncation.specs.StepLaws.{int-same, int-up, int-up-carried}
 use Rattle.truncation.proofs.whole.floor_of.Statement.{statement}
 use Rattle.truncation.proofs.whole.floor_of.Tie as tie
@@ -28,7 +29,7 @@ x c = c .before .before .args .x
 abbrev places : tie.Else1 → ℕ
 places c = 160 - x c .b1
 
-other : (c : tie.Else1) → taken65536 (x c) ≡ false
+other : (c : tie.Else1) → taken65536 Shipped (x c) ≡ false
 other c = sym (c .before .is-taken-65536 .ensures) ∙ c .if1 .left
 
 cut : (c : tie.Else1) → (mantissa (x c) / 2 ^ places c * 2 ^ places c) % 2 ^ 64 ≡ cleared (places c) (mantissa (x c))
@@ -40,30 +41,30 @@ raised c h = ap₂ _+_ (cut c) (bit (places c) h .0)
 
 returns : tie.Need-returns
 returns c =
-    int-taken _ (omega arith) (omega arith) (omega arith) (sym (c .before .is-taken-65536 .ensures) ∙ c .if1 .taken)
+    int-taken Shipped _ (omega arith) (omega arith) (omega arith) (sym (c .before .is-taken-65536 .ensures) ∙ c .if1 .taken)
 
 returns-2 : tie.Need-returns-2
 returns-2 c =
     let d = c .before .before .before .before in
-    cut-short (x d) (omega arith) (omega arith) (omega arith) (omega arith) (omega arith) .whole (sym (cut d) ∙ c .before .before .if3 .taken)
+    cut-short Shipped (x d) (omega arith) (omega arith) (omega arith) (omega arith) (omega arith) .whole (sym (cut d) ∙ c .before .before .if3 .taken)
     ∙ ap (λ (w : ℕ). Done (number 0 w)) (sym (c .halves-word .ensures ∙ ap (λ (h : ℕ). halves 255 h .word) (c .before .complement .ensures)))
 
 returns-3 : tie.Need-returns-3
 returns-3 c =
     let d = c .before .before .before in
-    short-up (x d) (omega arith) (omega arith) (omega arith) (omega arith) (omega arith) (λ e. c .before .if3 .left (cut d ∙ e))
+    short-down (x d) (omega arith) (omega arith) (omega arith) (omega arith) (omega arith) (λ e. c .before .if3 .left (cut d ∙ e))
     ∙ ap (λ (w : ℕ). Done (number 0 w)) (sym (c .halves-word2 .ensures))
 
 returns-4 : tie.Need-returns-4
 returns-4 c =
     let d = c .before .before in
-    int-same (x d) (omega arith) (omega arith) (omega arith) (omega arith) (other d) (sym (cut d) ∙ c .if4 .taken)
+    int-same Shipped (x d) (omega arith) (omega arith) (omega arith) (omega arith) (other d) (sym (cut d) ∙ c .if4 .taken)
 
 returns-5 : tie.Need-returns-5
 returns-5 c =
     let d = c .before .before .before .before in
     let r = raised d (omega arith) in
-    int-up (x d) (omega arith) (omega arith) (omega arith) (omega arith) (other d) (λ e. c .before .before .if4 .left (cut d ∙ e)) (omega arith)
+    int-up Shipped (x d) (omega arith) (omega arith) (omega arith) (omega arith) (other d) (λ e. c .before .before .if4 .left (cut d ∙ e)) (omega arith)
     ∙ ap (λ (w : ℕ). Done (number (x d .b1) w)) (sym (c .full-word .ensures ∙ ap (λ (m : ℕ). fullOf 1 0 m .word) r))
 
 returns-6 : tie.Need-returns-6
@@ -71,7 +72,7 @@ returns-6 c =
     let d = c .before .before .before .before in
     let r = raised d (omega arith) in
     let less = cleared-le (mantissa (x d)) (places d) in
-    int-up-carried (x d) (omega arith) (omega arith) (omega arith) (omega arith) (other d) (λ e. c .before .before .if4 .left (cut d ∙ e))
+    int-up-carried Shipped (x d) (omega arith) (omega arith) (omega arith) (omega arith) (other d) (λ e. c .before .before .if4 .left (cut d ∙ e))
     (omega arith) (omega (arith, bit (places d) (omega arith) .1))
     ∙ ap (λ (w : ℕ). Done (number (x d .b1 + 1) w)) (sym (c .full-word2 .ensures ∙ ap (λ (m : ℕ). fullOf 1 0 (m / 2) .word) r))
 
