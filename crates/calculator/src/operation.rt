@@ -2,10 +2,11 @@
 use literals::table;
 use slots::Outcome;
 ghost use mathlib.Core.Path.{_≡_};
+ghost use Rattle.edition.specs.declared.Edition.the-variants.{Shipped};
 ghost use Rattle.literals.specs.Operate.{operateOf, outcome};
 
 pub fn operate(stack: &mut [u8], depth: usize, literal: u8) -> Outcome
-    ensures { λ r. ⌜ operateOf (now (stack .entry)) depth literal ≡ (r, now (stack .exit)) ⌝ }
+    ensures { λ r. ⌜ operateOf Shipped (now (stack .entry)) depth literal ≡ (r, now (stack .exit)) ⌝ }
 {
     let mut after = depth;
     let report = operate_in_place(stack, &mut after, literal);
@@ -17,7 +18,7 @@ pub fn operate(stack: &mut [u8], depth: usize, literal: u8) -> Outcome
 
 // The same with the depth moved where it stands: the report is all that is answered.
 pub fn operate_in_place(stack: &mut [u8], depth: &mut usize, literal: u8) -> u8
-    ensures { λ r. ⌜ operateOf (now (stack .entry)) (now (depth .entry)) literal ≡ (outcome r (now (depth .exit)), now (stack .exit)) ⌝ }
+    ensures { λ r. ⌜ operateOf Shipped (now (stack .entry)) (now (depth .entry)) literal ≡ (outcome r (now (depth .exit)), now (stack .exit)) ⌝ }
 {
     match literal {
         // With an entry for 0, the literal is the index of the jump table as it is.

@@ -2,6 +2,7 @@
 use crate::outcome::RunOutcome;
 use literals::table;
 ghost use mathlib.Core.Path.{_≡_};
+ghost use Rattle.edition.specs.declared.Edition.the-variants.{Shipped};
 ghost use Rattle.literals.specs.Operate.{operateOf, outcome};
 ghost use Rattle.calculator.specs.Run.{runOf};
 
@@ -13,7 +14,7 @@ struct Stop {
 
 // Report 1 is checked once, even for an empty list.
 pub fn run(stack: &mut [u8], depth: usize, literals: &[u8]) -> RunOutcome
-    ensures { λ r. ⌜ runOf (now (stack .entry)) depth (now (literals .entry)) ≡ (r, now (stack .exit)) ⌝ }
+    ensures { λ r. ⌜ runOf Shipped (now (stack .entry)) depth (now (literals .entry)) ≡ (r, now (stack .exit)) ⌝ }
 {
     if slots::over_limits(stack, depth) {
         return RunOutcome {
@@ -53,7 +54,7 @@ pub fn run(stack: &mut [u8], depth: usize, literals: &[u8]) -> RunOutcome
 
 // The table once more, for the run alone: the compiler then has each small literal inside the loop.
 fn step(stack: &mut [u8], depth: &mut usize, literal: u8) -> u8
-    ensures { λ r. ⌜ operateOf (now (stack .entry)) (now (depth .entry)) literal ≡ (outcome r (now (depth .exit)), now (stack .exit)) ⌝ }
+    ensures { λ r. ⌜ operateOf Shipped (now (stack .entry)) (now (depth .entry)) literal ≡ (outcome r (now (depth .exit)), now (stack .exit)) ⌝ }
 {
     match literal {
         0 => literals::unknown(stack, *depth),

@@ -5,6 +5,7 @@ use mathlib.Core.Bool.{true, false, cond}
 use mathlib.Core.List.{List}
 use lib.Dec.{eqb}
 use lib.ListN.{length}
+use Rattle.edition.specs.declared.Edition.the-variants.{Shipped}
 use Rattle.text.specs.Put.{Text, putsOf}
 use Rattle.number.specs.declared.Number.{Number}
 use Rattle.slots.specs.declared.outcome.Outcome.{Outcome}
@@ -48,7 +49,7 @@ module _ (s : List ℕ) (d : ℕ) (t : Text) {said : Line} {o : Outcome} {s′ :
   unfolding saidKept doneBy recordOf fiveOf bytesOf
   push-kept n q e f = rw (q, f) (simp e)
 
-  pub literal-kept : {l : ℕ} {top : List ℕ} → said ≡ Literal l → operateOf s d l ≡ (o, s′) → top ≡ viewOf s′ (o .depth)
+  pub literal-kept : {l : ℕ} {top : List ℕ} → said ≡ Literal l → operateOf Shipped s d l ≡ (o, s′) → top ≡ viewOf s′ (o .depth)
       → u ≡ putsOf t (recordWith l (o .report) (o .depth) (fiveOf top)) → (s′, o .depth, u) ≡ saidKept s d t said
   unfolding saidKept doneBy recordOf topOf fiveOf
   literal-kept q e g f = rw (q, f, g) (simp e)

@@ -1,6 +1,7 @@
 -- The recording that this machine makes of a count: a record for each step in turn, with what the step left.
 use Prim.Native.Nat.{ℕ, _/_, _%_}
 use mathlib.Core.List.{List, [], _∷_, _++_}
+use Rattle.edition.specs.declared.Edition.the-variants.{Shipped}
 use Rattle.slots.specs.declared.outcome.Outcome.{Outcome}
 use Rattle.slots.specs.Push.{pushOf}
 use Rattle.literals.specs.Operate.{operateOf}
@@ -14,7 +15,7 @@ pub data Step : Type 0 where
 
 unfoldable pub doneBy : List ℕ → ℕ → Step → Outcome × List ℕ
 doneBy s d (push five) = pushOf s d five
-doneBy s d (literal l) = operateOf s d l
+doneBy s d (literal l) = operateOf Shipped s d l
 
 -- the sixteen bytes: literal, report, depth, five bytes, and seven zeros
 abbrev pub recordWith : ℕ → ℕ → ℕ → List ℕ → List ℕ

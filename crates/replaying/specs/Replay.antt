@@ -7,6 +7,7 @@ use mathlib.Core.Bool.{Bool, cond, not, _&&_}
 use mathlib.Core.List.{List}
 use lib.Dec.{eqb}
 use lib.ListN.{length}
+use Rattle.edition.specs.declared.Edition.the-variants.{Shipped}
 use Rattle.slots.specs.declared.outcome.Outcome.{Outcome}
 use Rattle.slots.specs.Reports.{overLimits}
 use Rattle.slots.specs.Push.{pushOf}
@@ -24,7 +25,7 @@ isPush x = eqb (literalIn x) 0
 
 -- the step of a record, on the stack s at depth d
 unfoldable pub stepOf : List ℕ → ℕ → List ℕ → Outcome × List ℕ
-stepOf s d x = cond (isPush x) (pushOf s d (topIn x)) (operateOf s d (literalIn x))
+stepOf s d x = cond (isPush x) (pushOf s d (topIn x)) (operateOf Shipped s d (literalIn x))
 
 -- "the top slot after (..; zeros at depth 0)": the view, and zeros where it is empty
 unfoldable pub topOf : List ℕ → ℕ → List ℕ

@@ -9,6 +9,7 @@ use lib.Dec.{eqb}
 use lib.ListN.{length, drop}
 use lib.Seq.{drop-drop}
 use borrow.Author.Tests.{eq-eqb, ne-eqb, eqb-true, eqb-false}
+use Rattle.edition.specs.declared.Edition.the-variants.{Shipped}
 use Rattle.slots.specs.declared.outcome.Outcome.{Outcome}
 use Rattle.slots.specs.Reports.{overLimits}
 use Rattle.slots.specs.Push.{pushOf}
@@ -27,7 +28,7 @@ module _ (s : List ℕ) (d : ℕ) (x : List ℕ) where
   unfolding stepOf
   step-push h = simp (eq-eqb _ _ h)
 
-  pub step-literal : (literalIn x ≡ 0 → ⊥) → stepOf s d x ≡ operateOf s d (literalIn x)
+  pub step-literal : (literalIn x ≡ 0 → ⊥) → stepOf s d x ≡ operateOf Shipped s d (literalIn x)
   unfolding stepOf
   step-literal h = simp (ne-eqb _ _ h)
 

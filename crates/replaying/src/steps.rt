@@ -4,6 +4,7 @@ use literals::table;
 ghost use Prim.Native.Nat.{_≤_};
 ghost use mathlib.Core.Path.{_≡_};
 ghost use mathlib.Core.Bool.{not};
+ghost use Rattle.edition.specs.declared.Edition.the-variants.{Shipped};
 ghost use Rattle.slots.specs.Push.{pushOf};
 ghost use Rattle.literals.specs.Operate.{operateOf, outcome};
 ghost use Rattle.recording.specs.Recording.{topIn, same};
@@ -13,7 +14,7 @@ ghost use Rattle.replaying.specs.ReplayLaws.{headDiffers, anyDiffers, fi
 // The table once more, for the replay alone: the compiler then has each small literal inside its loop, and the calculator's own table stays inside the
 // one call that it is made for.
 fn operate(stack: &mut [u8], depth: &mut usize, literal: u8) -> u8
-    ensures { λ r. ⌜ operateOf (now (stack .entry)) (now (depth .entry)) literal ≡ (outcome r (now (depth .exit)), now (stack .exit)) ⌝ }
+    ensures { λ r. ⌜ operateOf Shipped (now (stack .entry)) (now (depth .entry)) literal ≡ (outcome r (now (depth .exit)), now (stack .exit)) ⌝ }
 {
     match literal {
         table::EXCHANGE => moving::exchange(stack, depth),
