@@ -1,8 +1,8 @@
 -- Which numbers are odd, document 01's term: 00 FF 00 00 with any b5.
 use Prim.Native.Nat.{ℕ, _^_, _/_, _*_, _+_, _<_}
-use mathlib.Core.Path.{_≡_, refl, ap}
+use mathlib.Core.Path.{_≡_, refl, sym, _∙_, ap}
 use mathlib.Core.Logic.{_⊎_, inl, inr}
-use mathlib.Core.Bool.{Bool, true, false}
+use mathlib.Core.Bool.{true, false, false≢true}
 use native.Mathlib.Omega.{arith}
 use Rattle.number.specs.declared.Number.{Number}
 use Rattle.number.specs.declared.form.Form.{Form}
@@ -25,6 +25,9 @@ module _ (x : Number) where
   pub odd-word : x .b1 ≡ 0 → x .word / 2 ^ 8 ≡ 255 * 2 ^ 16 → odd x ≡ true
   odd-word h e = odd-as (form-odd x h (omega arith) (omega arith))
 
+  odd-form : formOf x ≡ Odd → x .word / 2 ^ 8 ≡ 255 * 2 ^ 16
+  odd-form e = let b = form-bytes x Odd e in let p = places (x .word) in omega (arith, b, p)
+
   pub odd-other : (x .word / 2 ^ 8 ≡ 255 * 2 ^ 16 → ⊥) → odd x ≡ false
   odd-other n = go (formOf x) refl
     where
@@ -32,7 +35,19 @@ module _ (x : Number) where
       go Full e = odd-as e
       go Short e = odd-as e
       go Malformed e = odd-as e
-      go Odd e = let b = form-bytes x Odd e in let p = places (x .word) in absurd (n (omega (arith, b, p)))
+      go Odd e = absurd (n (odd-form e))
+
+  pub odd-bytes : odd x ≡ true → (x .b1 ≡ 0) × (x .word / 2 ^ 8 ≡ 255 * 2 ^ 16)
+  odd-bytes o = go (formOf x) refl
+    where
+      none : {f : Form} → formOf x ≡ f → isOdd f ≡ false → ⊥
+      none e n = false≢true (sym n ∙ sym (odd-as e) ∙ o)
+
+      go : (f : Form) → formOf x ≡ f → (x .b1 ≡ 0) × (x .word / 2 ^ 8 ≡ 255 * 2 ^ 16)
+      go Full e = absurd (none e refl)
+      go Short e = absurd (none e refl)
+      go Malformed e = absurd (none e refl)
+      go Odd e = (form-bytes x Odd e .0, odd-form e)
 
   -- five zero bytes, or a full number
   pub odd-ended : (x ≡ zeros) ⊎ (0 < x .b1) → odd x ≡ false
