@@ -1,5 +1,5 @@
 // Literal 5.
-use crate::operand::operand;
+use crate::reading::operand;
 use crate::storing::store;
 use edition::Edition;
 use literals::table;

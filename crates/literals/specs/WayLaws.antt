@@ -87,7 +87,7 @@ module _ (ed : Edition) (s : List ℕ) (d l : ℕ) (f : Edition → Number → A
   one-malformed m = let h = has s d 1 a in way-malformed ed s d l (one f) 1 1 r refl (h .0) (h .1) refl (ap (malformedIn ed) (sym is-top) ∙ m)
 
   -- and is not too big
-  one-done : (n : Number) → malformedIn ed (numberAt s d 0) ≡ false → f ed (numberAt s d 0) ≡ Done n → operateOf ed s d l ≡ (outcome 0 d, putAt s d 0 n)
+  pub one-done : (n : Number) → malformedIn ed (numberAt s d 0) ≡ false → f ed (numberAt s d 0) ≡ Done n → operateOf ed s d l ≡ (outcome 0 d, putAt s d 0 n)
   unfolding notInTable noRoomFor malformedOperand tooBig isTooBig bytesAfter stored
   one-done n m b =
       let h = has s d 1 a in

@@ -1,5 +1,6 @@
 pub mod Slots
 pub mod SlotLaws
+pub mod SlotFacts
 pub mod Reports
 pub mod LimitLaws
 pub mod Reach

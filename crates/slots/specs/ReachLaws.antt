@@ -1,7 +1,7 @@
 -- What a stack lacks or has, a law a way to find out.
 use Prim.Native.Nat.{ℕ, _+_, _-_, _*_, _≤_, _<_}
 use mathlib.Core.Path.{_≡_, refl, sym, _∙_, ap}
-use mathlib.Core.Bool.{Bool, true, false, _||_}
+use mathlib.Core.Bool.{Bool, true, false, cond, _||_}
 use mathlib.Core.List.{List}
 use native.Mathlib.Omega.{arith}
 use borrow.Author.Tests.{lt-ltb, le-ltb, ltb-true, ltb-false}
@@ -9,6 +9,7 @@ use lib.Dec.{ltb}
 use lib.ListN.{length, getD}
 use Rattle.number.specs.declared.Number.{Number}
 use Rattle.number.specs.Number.{zeros}
+use Rattle.number.specs.NumberLaws.{Bytes}
 use Rattle.slots.specs.Slots.{slot, numberIn, putSlot, putIn}
 use Rattle.slots.specs.SlotLaws.{bytes-of-slot}
 use Rattle.slots.specs.Reports.{overLimits}
@@ -70,3 +71,15 @@ module _ (s : List ℕ) (d k : ℕ) where
 pub lacking-same : (s t : List ℕ) (d n : ℕ) → length t ≡ length s → lacking t d n ≡ lacking s d n
 unfolding lacking overLimits
 lacking-same s t d n h = simp h
+
+-- a number is made of the stack's bytes
+pub number-bytes : (s : List ℕ) (d k : ℕ) → ((j : ℕ) → getD s j 0 < 256) → Bytes (numberAt s d k)
+unfolding numberIn numberAt
+number-bytes s d k b = go (lacking s d (k + 1))
+  where
+    i : ℕ
+    i = 5 * (d - (k + 1))
+
+    go : (t : Bool) → Bytes (cond t zeros (numberIn s (d - (k + 1))))
+    go true = record { b1< = omega arith; word< = omega arith }
+    go false = record { b1< = b i; word< = omega (arith, b (i + 1), b (i + 2), b (i + 3), b (i + 4)) }

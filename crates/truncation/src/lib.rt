@@ -2,5 +2,6 @@
 mod cutting;
 mod whole;
 
+pub use cutting::is_taken_65536;
 pub use cutting::truncate;
 pub use whole::int;

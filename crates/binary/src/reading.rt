@@ -4,7 +4,7 @@ use number::Operand;
 ghost use Rattle.number.specs.Operand.{Unpacks};
 ghost use Rattle.slots.specs.Reach.{numberAt};
 
-pub(crate) fn operand(stack: &[u8], depth: usize, above: u8) -> Operand
+pub fn operand(stack: &[u8], depth: usize, above: u8) -> Operand
     ensures { λ r. ⌜ Unpacks (numberAt (now (stack .entry)) depth above) r ⌝ }
 {
     let b1 = slots::b1_at(stack, depth, above);

@@ -6,8 +6,8 @@ use native.Mathlib.Omega.{arith}
 use Rattle.number.specs.declared.Number.{Number}
 use Rattle.number.specs.Number.{number}
 use Rattle.number.specs.Operand.{Unpacks, operand, full-operand, unpacks-short}
-use Rattle.binary.proofs.operand.operand.Statement.{statement}
-use Rattle.binary.proofs.operand.operand.Tie as tie
+use Rattle.binary.proofs.reading.operand.Statement.{statement}
+use Rattle.binary.proofs.reading.operand.Tie as tie
 
 returns : tie.Need-returns
 returns c =
