@@ -4,6 +4,7 @@ use Prim.Native.Nat.{ℕ}
 use mathlib.Core.Path.{_≡_, refl}
 use mathlib.Core.List.{List, [], _∷_, _++_, map}
 use lib.Count.{leadingZeros}
+use Rattle.edition.specs.declared.Edition.the-variants.{Shipped}
 use Rattle.number.specs.declared.Number.{Number}
 use Rattle.number.specs.Number.{bytes, zeros, formOf, malformed, passesZeroTest}
 use Rattle.number.specs.Value.{shortValue}
@@ -49,7 +50,7 @@ turns l x z = record { stack = bytesOf x; depth = 1; literal = l; leaves = (reco
 
 -- each literal leaves what the row says
 abbrev pub Hold : List Case → Type 0
-Hold cs = map (λ (c : Case). operateOf (c .stack) (c .depth) (c .literal)) cs ≡ map (λ (c : Case). c .leaves) cs
+Hold cs = map (λ (c : Case). operateOf Shipped (c .stack) (c .depth) (c .literal)) cs ≡ map (λ (c : Case). c .leaves) cs
 
 -- 3 subtracts, 4 multiplies, 5 divides, 15 adds, 27 negates, 39 is int, 58 truncates, 61 re-stacks.
 abbrev pub starred : List Case
@@ -164,7 +165,7 @@ fifth =
 -- bench 82 40 00 00 00 twice."
 abbrev pub WorkedRun : Type 0
 WorkedRun =
-    runOf (0 ∷ 0 ∷ 6 ∷ 0 ∷ 0 ∷ 0 ∷ 0 ∷ 2 ∷ 0 ∷ 0 ∷ []) 2 (5 ∷ 49 ∷ 49 ∷ [])
+    runOf Shipped (0 ∷ 0 ∷ 6 ∷ 0 ∷ 0 ∷ 0 ∷ 0 ∷ 2 ∷ 0 ∷ 0 ∷ []) 2 (5 ∷ 49 ∷ 49 ∷ [])
     ≡ (record { report = 4; position = 2; depth = 2 }, 0x82 ∷ 0x40 ∷ 0 ∷ 0 ∷ 0 ∷ 0x82 ∷ 0x40 ∷ 0 ∷ 0 ∷ 0 ∷ [])
 
 computed : Hold starred × Hold unstarred × Hold edges × Hold multiplied × Worked × WorkedRun × Hold fifth
