@@ -6,3 +6,4 @@ pub mod TooBig
 pub mod MantissaLaws
 pub mod SecondHalves
 pub mod SignBytes
+pub mod MendedLaws

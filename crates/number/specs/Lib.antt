@@ -1,5 +1,6 @@
 pub mod Number
 pub mod FormLaws
+pub mod OddLaws
 pub mod NumberLaws
 pub mod Value
 pub mod ValueLaws

@@ -30,12 +30,13 @@ pub int-positive : (ed : Edition) (x : Number) → sign x ≡ 0 → intOf ed x �
 unfolding intOf
 int-positive ed x h = simp (eq-eqb (sign x) 0 h)
 
+pub int-steps : (ed : Edition) (x : Number) → (sign x ≡ 0 → ⊥) → intOf ed x ≡ stepDown ed (truncated ed x) (differenceOf ed x (truncated ed x))
+unfolding intOf
+int-steps ed x h = simp (ne-eqb (sign x) 0 h)
+
 module _ (ed : Edition) (x t d : Number) (h : sign x ≡ 1) (e : truncated ed x ≡ t) (f : differenceOf ed x t ≡ Done d) where
   down : intOf ed x ≡ stepDown ed t (Done d)
-  unfolding intOf
-  down =
-      simp (ne-eqb (sign x) 0 (omega arith))
-      (ap (λ (n : Number). stepDown ed n (differenceOf ed x n)) e ∙ ap (stepDown ed t) f)
+  down = int-steps ed x (omega arith) ∙ ap (λ (n : Number). stepDown ed n (differenceOf ed x n)) e ∙ ap (stepDown ed t) f
 
   pub int-whole : passesZeroTest d ≡ true → intOf ed x ≡ Done t
   int-whole z = down ∙ simp z

@@ -6,3 +6,4 @@ pub mod Int
 pub mod IntLaws
 pub mod FloorLaws
 pub mod StepLaws
+pub mod MendedLaws
