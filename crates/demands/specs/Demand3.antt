@@ -1,4 +1,5 @@
--- Demand 3, of literal 5's own report, depth and bytes on a stack. What its digits write, and what the result is, are the records of crate division.
+-- Demand 3 of either edition, of literal 5's own report, depth and bytes on a stack. What its digits write, and what the result is, are the records of crate
+-- division, where the exception is the shipped edition's alone.
 use Prim.Native.Nat.{ℕ, _+_, _-_, _*_, _≤_, _<_}
 use mathlib.Core.Path.{_≡_, sym, _∙_, ap, subst⁻¹}
 use mathlib.Core.Logic.{_↔_}
@@ -6,12 +7,13 @@ use mathlib.Core.List.{List}
 use native.Mathlib.Omega.{arith}
 use lib.ListN.{length, getD}
 use Rattle.edition.specs.declared.Edition.{Edition}
+use Rattle.edition.specs.declared.Edition.the-variants.{Mended}
 use Rattle.number.specs.declared.Number.{Number}
 use Rattle.number.specs.Number.{mantissa}
 use Rattle.number.specs.Restack.{restacked, CountsAsZero}
 use Rattle.ending.specs.declared.answer.Answer.the-variants.{Done}
 use Rattle.division.specs.Division.{quotientOf}
-use Rattle.division.specs.Demand3.{added, Digits, Result, Demand3}
+use Rattle.division.specs.Demand3.{nearest, added, exact, Digits, Result, Demand3}
 use Rattle.division.specs.Demand3Laws.{demand3}
 use Rattle.slots.specs.declared.outcome.Outcome.{Outcome}
 use Rattle.slots.specs.Slots.{numberIn, lower, top}
@@ -91,3 +93,15 @@ module _ (ed : Edition) (s : List ℕ) (d : ℕ) (h : Divides ed s d) where
         );
         left = λ E is one most. let r = clauses .result E is one most in is-left E (r .0) (r .1) (r .2);
       }
+
+-- A3, of the mended edition: "Its demand 3 reads without the exception: always nearest, halves up." When E is 1 to 255, literal 5 is done, the result's exponent
+-- byte is E, and its mantissa is the exact one, M times 2^32 (or 2^31) over N, rounded to nearest.
+module _ (s : List ℕ) (d : ℕ) (h : Divides Mended s d) where
+  abbrev pub mendedQuotient : Number
+  mendedQuotient = numberIn (operateOf Mended s d 5 .1) (d - 2)
+
+  pub always-nearest : (E : ℕ) → E + restacked (top s d) .b1 ≡ restacked (lower s d) .b1 + added (M s d) (N s d) → 1 ≤ E → E ≤ 255
+      → (operateOf Mended s d 5 .0 .report ≡ 0) × (mendedQuotient .b1 ≡ E) × (mantissa mendedQuotient ≡ nearest (exact (M s d) (N s d)) (N s d))
+  always-nearest E is one most =
+      let l = division-on-stack Mended s d h .left E is one most in
+      (l .report, l .result .exponent, l .result .rounded (λ exception. exception))
