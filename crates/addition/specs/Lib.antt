@@ -7,3 +7,4 @@ pub mod MantissaLaws
 pub mod SecondHalves
 pub mod SignBytes
 pub mod MendedLaws
+pub mod NotOdd

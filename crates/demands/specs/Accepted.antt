@@ -8,6 +8,7 @@ use native.Mathlib.Omega.{arith}
 use lib.Dec.{eqb, ltb}
 use lib.ListN.{length}
 use borrow.Author.Tests.{ltb-false, eqb-true}
+use Rattle.edition.specs.declared.Edition.{Edition}
 use Rattle.number.specs.Number.{malformed}
 use Rattle.slots.specs.Slots.{numberIn}
 use Rattle.slots.specs.Reports.{overLimits, noRoom, notANumber, pushReport}
@@ -21,36 +22,36 @@ passed true n r k h e = absurd (h e)
 passed false n r k h e = (refl, e)
 
 -- the rows before 6 do not hold: 1, 5, 2, 4, 3
-pub record Passed (s : List ℕ) (d l : ℕ) : Type 0 where
+pub record Passed (ed : Edition) (s : List ℕ) (d l : ℕ) : Type 0 where
   pub limits : overLimits s d ≡ false
   pub known : notInTable (operationOf l) ≡ false
   pub enough : ltb d (takes l) ≡ false
   pub room : noRoomFor (operationOf l) s d ≡ false
-  pub formed : malformedOperand (operationOf l) s d ≡ false
+  pub formed : malformedOperand ed (operationOf l) s d ≡ false
 
-module _ (s : List ℕ) (d l : ℕ) where
-  rows-passed : (k : ℕ) → (1 ≤ k → k ≤ 5 → ⊥) → reportOf s d l ≡ k → Passed s d l × (cond (tooBig (operationOf l) s d) 6 0 ≡ k)
+module _ (ed : Edition) (s : List ℕ) (d l : ℕ) where
+  rows-passed : (k : ℕ) → (1 ≤ k → k ≤ 5 → ⊥) → reportOf ed s d l ≡ k → Passed ed s d l × (cond (tooBig ed (operationOf l) s d) 6 0 ≡ k)
   unfolding reportOf
   rows-passed k o e =
       let p1 = passed (overLimits s d) 1 _ k (λ z. o (omega arith) (omega arith)) e in
       let p5 = passed (notInTable (operationOf l)) 5 _ k (λ z. o (omega arith) (omega arith)) (p1 .1) in
       let p2 = passed (ltb d (takes l)) 2 _ k (λ z. o (omega arith) (omega arith)) (p5 .1) in
       let p4 = passed (noRoomFor (operationOf l) s d) 4 _ k (λ z. o (omega arith) (omega arith)) (p2 .1) in
-      let p3 = passed (malformedOperand (operationOf l) s d) 3 _ k (λ z. o (omega arith) (omega arith)) (p4 .1) in
+      let p3 = passed (malformedOperand ed (operationOf l) s d) 3 _ k (λ z. o (omega arith) (omega arith)) (p4 .1) in
       (record { limits = p1 .0; known = p5 .0; enough = p2 .0; room = p4 .0; formed = p3 .0 }, p3 .1)
 
-  row-6 : Passed s d l → reportOf s d l ≡ cond (tooBig (operationOf l) s d) 6 0
+  row-6 : Passed ed s d l → reportOf ed s d l ≡ cond (tooBig ed (operationOf l) s d) 6 0
   unfolding reportOf
   row-6 p = simp (p .limits, p .known, p .enough, p .room, p .formed)
 
   -- report 0, and report 6
-  pub accepted : (reportOf s d l ≡ 0) ↔ (Passed s d l × (tooBig (operationOf l) s d ≡ false))
+  pub accepted : (reportOf ed s d l ≡ 0) ↔ (Passed ed s d l × (tooBig ed (operationOf l) s d ≡ false))
   accepted = (
     (λ e. let r = rows-passed 0 (λ a b. omega arith) e in (r .0, passed _ 6 0 0 (λ z. omega arith) (r .1) .0)),
     (λ r. row-6 (r .0) ∙ simp (r .1)),
   )
 
-  pub too-big : (reportOf s d l ≡ 6) ↔ (Passed s d l × (tooBig (operationOf l) s d ≡ true))
+  pub too-big : (reportOf ed s d l ≡ 6) ↔ (Passed ed s d l × (tooBig ed (operationOf l) s d ≡ true))
   too-big = (
     (λ e. let r = rows-passed 6 (λ a b. omega arith) e in (r .0, held _ (r .1))),
     (λ r. row-6 (r .0) ∙ simp (r .1)),
@@ -60,7 +61,7 @@ module _ (s : List ℕ) (d l : ℕ) where
       held true e = refl
       held false e = absurd (omega arith)
 
-  pub within : Passed s d l → (length s ≤ 16000) × (5 * d ≤ length s) × (takes l ≤ d)
+  pub within : Passed ed s d l → (length s ≤ 16000) × (5 * d ≤ length s) × (takes l ≤ d)
   within p = let w = within-of s d (p .limits) in (w .short, w .deep, ltb-false d (takes l) (p .enough))
 
 pub record Pushable (s : List ℕ) (d : ℕ) (p : List ℕ) : Type 0 where

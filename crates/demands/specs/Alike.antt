@@ -7,6 +7,7 @@ use mathlib.Core.List.{List, [], _∷_}
 use native.Mathlib.Omega.{arith}
 use lib.Dec.{ltb, eqb}
 use borrow.Author.Tests.{ltb-false, eqb-false}
+use Rattle.edition.specs.declared.Edition.{Edition}
 use Rattle.slots.specs.declared.outcome.Outcome.{Outcome}
 use Rattle.calculator.specs.declared.outcome.RunOutcome.{RunOutcome}
 use Rattle.slots.specs.Slots.{putSlot}
@@ -42,15 +43,15 @@ neither false c e = (refl, e)
 
 module _ {R : List ℕ → List ℕ → Type 0} (c : Carried R) where
   module _ (d : ℕ) (s s′ : List ℕ) (a : Agree R d s s′) where
-    report-same : (l : ℕ) → reportOf s d l ≡ reportOf s′ d l
+    report-same : (ed : Edition) (l : ℕ) → reportOf ed s d l ≡ reportOf ed s′ d l
     unfolding reportOf
-    report-same l =
+    report-same ed l =
         rw (← limits-agree d s s′ a)
         (choice _≡_ (overLimits s d) (λ e. refl) (λ e.
         choice _≡_ (notInTable (operationOf l)) (λ u. refl) (λ u.
         choice _≡_ (ltb d (takes l)) (λ f. refl) (λ f.
         let enough = ltb-false d (takes l) f in
-        let r = rows-same c d s s′ a (operationOf l) (c .operations l) (omega (arith, takes-are l)) in
+        let r = rows-same ed c d s s′ a (operationOf l) (c .operations l) (omega (arith, takes-are l)) in
         simp (r .0, r .1, r .2)))))
 
     settled-alike : (r e : ℕ) (t t′ : List ℕ) → (r ≡ 0 → Agree R e t t′) → Alike R (settled r d s e t) (settled r d s′ e t′)
@@ -58,15 +59,15 @@ module _ {R : List ℕ → List ℕ → Type 0} (c : Carried R) where
     settled-alike zero e t t′ h = record { answers = refl; leave = h refl }
     settled-alike (suc k) e t t′ h = record { answers = refl; leave = a }
 
-    pub related-operations : (l : ℕ) → Alike R (operateOf s d l) (operateOf s′ d l)
+    pub related-operations : (ed : Edition) (l : ℕ) → Alike R (operateOf ed s d l) (operateOf ed s′ d l)
     unfolding operateOf
-    related-operations l =
-        rw (← report-same l)
-        (settled-alike (reportOf s d l) (d - takes l + leaves l) (bytesAfter (operationOf l) s d) (bytesAfter (operationOf l) s′ d)
+    related-operations ed l =
+        rw (← report-same ed l)
+        (settled-alike (reportOf ed s d l) (d - takes l + leaves l) (bytesAfter ed (operationOf l) s d) (bytesAfter ed (operationOf l) s′ d)
         (λ ok.
-        let y = accepted s d l .0 ok .0 in
-        let w = within s d l y in
-        rw (takes-are l, leaves-are l) (bytes-agree c d s s′ a (w .1) (operationOf l) (c .operations l) (omega (arith, takes-are l)) (y .room))))
+        let y = accepted ed s d l .0 ok .0 in
+        let w = within ed s d l y in
+        rw (takes-are l, leaves-are l) (bytes-agree ed c d s s′ a (w .1) (operationOf l) (c .operations l) (omega (arith, takes-are l)) (y .room))))
 
     push-report-same : (p : List ℕ) → pushReport s d p ≡ pushReport s′ d p
     unfolding pushReport
@@ -90,21 +91,21 @@ module _ {R : List ℕ → List ℕ → Type 0} (c : Carried R) where
         choice _≡_ (eqb d 0) (λ g. refl) (λ g.
         of-numbers d s s′ a (λ x x′. numberShown x ≡ numberShown x′) (c .cells) (d - 1) (omega (arith, eqb-false d 0 g))))))
 
-  rest-alike : (ls : List ℕ) (i d : ℕ) (s s′ : List ℕ) → Agree R d s s′ → RunsAlike R (goOn ls i s d) (goOn ls i s′ d)
+  rest-alike : (ed : Edition) (ls : List ℕ) (i d : ℕ) (s s′ : List ℕ) → Agree R d s s′ → RunsAlike R (goOn ed ls i s d) (goOn ed ls i s′ d)
   unfolding goOn
-  rest-alike [] i d s s′ a = record { answers = refl; leave = a }
-  rest-alike (l ∷ ls) i d s s′ a =
-      let h = related-operations d s s′ a l in
+  rest-alike ed [] i d s s′ a = record { answers = refl; leave = a }
+  rest-alike ed (l ∷ ls) i d s s′ a =
+      let h = related-operations d s s′ a ed l in
       rw (← h .answers)
-      (choice (RunsAlike R) (eqb (operateOf s d l .0 .report) 0) (λ e. rest-alike ls (i + 1) _ _ _ (h .leave)) (λ e. record { answers = refl; leave = a }))
+      (choice (RunsAlike R) (eqb (operateOf ed s d l .0 .report) 0) (λ e. rest-alike ed ls (i + 1) _ _ _ (h .leave)) (λ e. record { answers = refl; leave = a }))
 
-  pub related-runs : (d : ℕ) (s s′ : List ℕ) → Agree R d s s′ → (ls : List ℕ) → RunsAlike R (runOf s d ls) (runOf s′ d ls)
+  pub related-runs : (ed : Edition) (d : ℕ) (s s′ : List ℕ) → Agree R d s s′ → (ls : List ℕ) → RunsAlike R (runOf ed s d ls) (runOf ed s′ d ls)
   unfolding runOf
-  related-runs d s s′ a ls =
+  related-runs ed d s s′ a ls =
       rw (← limits-agree d s s′ a)
-      (choice (RunsAlike R) (overLimits s d || tooManyLiterals ls) (λ e. record { answers = refl; leave = a }) (λ e. rest-alike ls 0 d s s′ a))
+      (choice (RunsAlike R) (overLimits s d || tooManyLiterals ls) (λ e. record { answers = refl; leave = a }) (λ e. rest-alike ed ls 0 d s s′ a))
 
   -- the cell made from a run's report and the stack after it
-  pub related-run-cells : (d : ℕ) (s s′ : List ℕ) → Agree R d s s′ → (ls : List ℕ)
-      → (let x = runOf s d ls in let x′ = runOf s′ d ls in cellOf (x .0 .report) (x .1) (x .0 .depth) ≡ cellOf (x′ .0 .report) (x′ .1) (x′ .0 .depth))
-  related-run-cells d s s′ a ls = let h = related-runs d s s′ a ls in rw (← h .answers) (related-cells _ _ _ (h .leave) _)
+  pub related-run-cells : (ed : Edition) (d : ℕ) (s s′ : List ℕ) → Agree R d s s′ → (ls : List ℕ)
+      → (let x = runOf ed s d ls in let x′ = runOf ed s′ d ls in cellOf (x .0 .report) (x .1) (x .0 .depth) ≡ cellOf (x′ .0 .report) (x′ .1) (x′ .0 .depth))
+  related-run-cells ed d s s′ a ls = let h = related-runs ed d s s′ a ls in rw (← h .answers) (related-cells _ _ _ (h .leave) _)

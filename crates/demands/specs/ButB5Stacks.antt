@@ -6,6 +6,7 @@ use mathlib.Core.List.{List}
 use native.Mathlib.Omega.{arith}
 use lib.ListN.{getD}
 use lib.Seq.{getD-take}
+use Rattle.edition.specs.declared.Edition.{Edition}
 use Rattle.number.specs.declared.Number.{Number}
 use Rattle.number.specs.NumberLaws.{upper}
 use Rattle.ending.specs.declared.answer.Answer.{Answer}
@@ -42,18 +43,18 @@ in-bytes : {v v′ : Answer} → Answers Like v v′ → Answers (InBytes SameBu
 in-bytes (done r) = done (bytes-alike _ _ r)
 in-bytes too-big = too-big
 
-kept-one : (f : Number → Answer) → KeepsOne f → Kept SameButB5 (one f)
-kept-one f k p p′ r = in-bytes (k _ _ (number-alike p p′ r))
+kept-one : (f : Edition → Number → Answer) → KeepsOne f → Kept SameButB5 (one f)
+kept-one f k ed p p′ r = in-bytes (k ed _ _ (number-alike p p′ r))
 
-kept-two : (f : Number → Number → Answer) → KeepsTwo f → Kept SameButB5 (two f)
-kept-two f k p p′ q q′ r t = in-bytes (k _ _ _ _ (number-alike p p′ r) (number-alike q q′ t))
+kept-two : (f : Edition → Number → Number → Answer) → KeepsTwo f → Kept SameButB5 (two f)
+kept-two f k ed p p′ q q′ r t = in-bytes (k ed _ _ _ _ (number-alike p p′ r) (number-alike q q′ t))
 
 pub but-b5-carried : Carried SameButB5
 unfolding operationOf
 but-b5-carried =
     record {
       same = λ p. inl refl;
-      forms = λ p p′ r. malformed-alike _ _ (number-alike p p′ r);
+      forms = λ ed p p′ r. malformed-alike _ _ (number-alike p p′ r) ed;
       cells = λ p p′ r. shown-alike _ _ (number-alike p p′ r);
       operations =
           each-row (λ (r : Row). Kept SameButB5 (r .operation)) (λ l. tt)

@@ -5,6 +5,7 @@ use mathlib.Core.Bool.{true, false}
 use mathlib.Core.List.{List}
 use native.Mathlib.Omega.{arith}
 use lib.ListN.{length, getD}
+use Rattle.edition.specs.declared.Edition.{Edition}
 use Rattle.number.specs.declared.Number.{Number}
 use Rattle.number.specs.NumberLaws.{Bytes}
 use Rattle.ending.specs.declared.answer.Answer.{Answer}
@@ -21,10 +22,10 @@ abbrev pub AreBytes : List ℕ → Type 0
 AreBytes s = (k : ℕ) → k < length s → getD s k 0 < 256
 
 -- and so each number that a literal takes, the k-th from the top, is made of bytes
-pub operand-bytes : (s : List ℕ) (d l k : ℕ) → AreBytes s → Passed s d l → 1 ≤ k → k ≤ takes l → Bytes (numberIn s (d - k))
+pub operand-bytes : (ed : Edition) (s : List ℕ) (d l k : ℕ) → AreBytes s → Passed ed s d l → 1 ≤ k → k ≤ takes l → Bytes (numberIn s (d - k))
 unfolding numberIn
-operand-bytes s d l k b p g h =
-    let w = within s d l p in
+operand-bytes ed s d l k b p g h =
+    let w = within ed s d l p in
     let b2 = b (5 * (d - k) + 1) (omega arith) in
     let b3 = b (5 * (d - k) + 2) (omega arith) in
     let b4 = b (5 * (d - k) + 3) (omega arith) in

@@ -1,12 +1,14 @@
 -- Demand 1: "Any bytes, any depth and any literals may come in. Every call ends, refuses exactly by document 01's table, and a refused
 -- operation changes no byte of the lent stack and no depth. A cell made from a refusal carries no number."
 -- That any bytes, depth and literals may come in, and that every call ends, is in the contracts of `calculator`: they require nothing.
+-- Document 02, A3: "Demands 1 and 2 hold for each edition against its own rules." Each theorem here and in the files of demand 2 is of both.
 use Prim.Native.Nat.{ℕ, zero, suc}
 use mathlib.Core.Path.{_≡_, refl, sym, _∙_}
 use mathlib.Core.Logic.{_↔_}
 use mathlib.Core.Bool.{Bool, true, false, cond, _||_}
 use mathlib.Core.List.{List, [], _∷_}
 use borrow.Author.Tests.{ne-eqb}
+use Rattle.edition.specs.declared.Edition.{Edition}
 use Rattle.display.specs.declared.shown.Cell.{Cell}
 use Rattle.display.specs.declared.shown.Cell.the-variants.{Refused, Blank, Odd, Value}
 use Rattle.slots.specs.Reports.{When, first, pushRows, overLimits, pushReport}
@@ -25,9 +27,9 @@ unfolding settled
 settled-report zero d s d′ s′ = refl
 settled-report (suc k) d s d′ s′ = refl
 
-pub operation-report : (s : List ℕ) (d l : ℕ) → operateOf s d l .0 .report ≡ reportOf s d l
+pub operation-report : (ed : Edition) (s : List ℕ) (d l : ℕ) → operateOf ed s d l .0 .report ≡ reportOf ed s d l
 unfolding operateOf
-operation-report s d l = settled-report (reportOf s d l) d s _ _
+operation-report ed s d l = settled-report (reportOf ed s d l) d s _ _
 
 pub push-report : (s : List ℕ) (d : ℕ) (p : List ℕ) → pushOf s d p .0 .report ≡ pushReport s d p
 unfolding pushOf
@@ -53,33 +55,33 @@ given-first : {n : ℕ} {ws : List When} → Given n ws → first ws ≡ n
 given-first (here e) = simp e
 given-first (later e g) = simp e (given-first g)
 
-pub operation-exactly : (s : List ℕ) (d l n : ℕ) → (n ≡ 0 → ⊥) → (operateOf s d l .0 .report ≡ n) ↔ Given n (rows s d l)
+pub operation-exactly : (ed : Edition) (s : List ℕ) (d l n : ℕ) → (n ≡ 0 → ⊥) → (operateOf ed s d l .0 .report ≡ n) ↔ Given n (rows ed s d l)
 unfolding reportOf
-operation-exactly s d l n h = ((λ e. given (rows s d l) _ n (operation-report s d l) h e), (λ g. operation-report s d l ∙ given-first g))
+operation-exactly ed s d l n h = ((λ e. given (rows ed s d l) _ n (operation-report ed s d l) h e), (λ g. operation-report ed s d l ∙ given-first g))
 
 pub push-exactly : (s : List ℕ) (d : ℕ) (p : List ℕ) (n : ℕ) → (n ≡ 0 → ⊥) → (pushOf s d p .0 .report ≡ n) ↔ Given n (pushRows s d p)
 unfolding pushReport
 push-exactly s d p n h = ((λ e. given (pushRows s d p) _ n (push-report s d p) h e), (λ g. push-report s d p ∙ given-first g))
 
 -- "a refused operation changes no byte of the lent stack and no depth"
-pub refused-operation : (s : List ℕ) (d l : ℕ) → (reportOf s d l ≡ 0 → ⊥) → (operateOf s d l .1 ≡ s) × (operateOf s d l .0 .depth ≡ d)
-refused-operation s d l h = operate-kept s d l _ _ refl (λ e. h (sym (operation-report s d l) ∙ e))
+pub refused-operation : (ed : Edition) (s : List ℕ) (d l : ℕ) → (reportOf ed s d l ≡ 0 → ⊥) → (operateOf ed s d l .1 ≡ s) × (operateOf ed s d l .0 .depth ≡ d)
+refused-operation ed s d l h = operate-kept ed s d l _ _ refl (λ e. h (sym (operation-report ed s d l) ∙ e))
 
 pub refused-push : (s : List ℕ) (d : ℕ) (p : List ℕ) → (pushReport s d p ≡ 0 → ⊥) → (pushOf s d p .1 ≡ s) × (pushOf s d p .0 .depth ≡ d)
 unfolding pushOf
 refused-push s d p h = settled-refused (pushReport s d p) d s _ _ _ _ refl (λ e. h (sym (push-report s d p) ∙ e))
 
 -- A run step that is refused: the run stops there, with the step's report, and the stack and the depth that the step found.
-pub refused-step : (l : ℕ) (ls : List ℕ) (i : ℕ) (s : List ℕ) (d : ℕ) → (reportOf s d l ≡ 0 → ⊥)
-    → goOn (l ∷ ls) i s d ≡ (record { report = reportOf s d l; position = i; depth = d }, s)
+pub refused-step : (ed : Edition) (l : ℕ) (ls : List ℕ) (i : ℕ) (s : List ℕ) (d : ℕ) → (reportOf ed s d l ≡ 0 → ⊥)
+    → goOn ed (l ∷ ls) i s d ≡ (record { report = reportOf ed s d l; position = i; depth = d }, s)
 unfolding goOn
-refused-step l ls i s d h = simp (operation-report s d l, ne-eqb (reportOf s d l) 0 h)
+refused-step ed l ls i s d h = simp (operation-report ed s d l, ne-eqb (reportOf ed s d l) 0 h)
 
 -- "A run checks report 1 once, even for an empty list, and refuses with nothing done and position 0."
-pub refused-run : (s : List ℕ) (d : ℕ) (ls : List ℕ) → overLimits s d || tooManyLiterals ls ≡ true
-    → runOf s d ls ≡ (record { report = 1; position = 0; depth = d }, s)
+pub refused-run : (ed : Edition) (s : List ℕ) (d : ℕ) (ls : List ℕ) → overLimits s d || tooManyLiterals ls ≡ true
+    → runOf ed s d ls ≡ (record { report = 1; position = 0; depth = d }, s)
 unfolding runOf
-refused-run s d ls h = simp h
+refused-run ed s d ls h = simp h
 
 -- "A cell made from a refusal carries no number": it names the report, and nothing else is in it
 pub refused-cell : (r : ℕ) (s : List ℕ) (d : ℕ) → (r ≡ 0 → ⊥)

@@ -10,12 +10,13 @@ use native.Mathlib.Omega.{arith}
 use lib.Dec.{eqb}
 use lib.ListN.{length, getD}
 use borrow.Author.Tests.{eqb-false}
-use Rattle.number.specs.Number.{malformed}
+use Rattle.edition.specs.declared.Edition.{Edition}
 use Rattle.slots.specs.Slots.{numberIn}
 use Rattle.slots.specs.Reports.{overLimits}
 use Rattle.slots.specs.Push.{pushOf}
 use Rattle.slots.specs.View.{viewOf}
 use Rattle.literals.specs.Literals.{Operation, exchange, delete, duplicate, one, two, unknown, operationOf}
+use Rattle.literals.specs.Reports.{malformedIn}
 use Rattle.literals.specs.Operate.{operateOf}
 use Rattle.calculator.specs.Run.{runOf}
 use Rattle.display.specs.Cell.{numberShown, cellOf}
@@ -33,8 +34,8 @@ same-below d s s′ = (
 
 -- any operation gives the same of the same bytes
 kept : (o : Operation) → Kept _≡_ o
-kept (one f) = λ p p′ e. answers-same (λ n. refl) _ _ (ap (λ (r : List ℕ). f (numberIn r 0)) e)
-kept (two f) = λ p p′ q q′ e g. answers-same (λ n. refl) _ _ (ap₂ (λ (r t : List ℕ). f (numberIn r 0) (numberIn t 0)) e g)
+kept (one f) = λ ed p p′ e. answers-same (λ n. refl) _ _ (ap (λ (r : List ℕ). f ed (numberIn r 0)) e)
+kept (two f) = λ ed p p′ q q′ e g. answers-same (λ n. refl) _ _ (ap₂ (λ (r t : List ℕ). f ed (numberIn r 0) (numberIn t 0)) e g)
 kept exchange = tt
 kept delete = tt
 kept duplicate = tt
@@ -44,20 +45,20 @@ carried : Carried _≡_
 carried =
     record {
       same = λ p. refl;
-      forms = λ p p′ e. ap (λ (q : List ℕ). malformed (numberIn q 0)) e;
+      forms = λ ed p p′ e. ap (λ (q : List ℕ). malformedIn ed (numberIn q 0)) e;
       cells = λ p p′ e. ap (λ (q : List ℕ). numberShown (numberIn q 0)) e;
       operations = λ l. kept (operationOf l);
     }
 
 module _ (d : ℕ) (s s′ : List ℕ) (a : Agree _≡_ d s s′) where
-  pub operations-alike : (l : ℕ) → Alike _≡_ (operateOf s d l) (operateOf s′ d l)
+  pub operations-alike : (ed : Edition) (l : ℕ) → Alike _≡_ (operateOf ed s d l) (operateOf ed s′ d l)
   operations-alike = related-operations carried d s s′ a
 
   pub pushes-alike : (p : List ℕ) → Alike _≡_ (pushOf s d p) (pushOf s′ d p)
   pushes-alike = related-pushes carried d s s′ a
 
-  pub runs-alike : (ls : List ℕ) → RunsAlike _≡_ (runOf s d ls) (runOf s′ d ls)
-  runs-alike = related-runs carried d s s′ a
+  pub runs-alike : (ed : Edition) (ls : List ℕ) → RunsAlike _≡_ (runOf ed s d ls) (runOf ed s′ d ls)
+  runs-alike ed = related-runs carried ed d s s′ a
 
   pub views-same : viewOf s d ≡ viewOf s′ d
   unfolding viewOf

@@ -7,15 +7,15 @@ use mathlib.Core.List.{List}
 use native.Mathlib.Omega.{arith}
 use lib.ListN.{length}
 use borrow.Author.Tests.{ltb-false}
+use Rattle.edition.specs.declared.Edition.{Edition}
 use Rattle.number.specs.declared.Number.{Number}
-use Rattle.number.specs.Number.{malformed}
 use Rattle.ending.specs.declared.answer.Answer.{Answer}
 use Rattle.ending.specs.declared.answer.Answer.the-variants.{Done, TooBig}
 use Rattle.slots.specs.Slots.{slot, numberIn, bytesOf, top, lower}
 use Rattle.slots.specs.SlotLaws.{length-putSlot}
 use Rattle.slots.specs.Reports.{noRoom}
 use Rattle.literals.specs.Literals.{Operation, exchange, delete, duplicate, one, two, unknown, operationOf}
-use Rattle.literals.specs.Reports.{noRoomFor, malformedOperand, isTooBig, tooBig}
+use Rattle.literals.specs.Reports.{noRoomFor, malformedIn, malformedOperand, isTooBig, tooBig}
 use Rattle.literals.specs.Operate.{stored, bytesAfter}
 use Rattle.display.specs.Cell.{numberShown}
 use Rattle.demands.specs.Counts.{takesOf, leavesOf}
@@ -30,19 +30,19 @@ pub data Answers (N : Number → Number → Type 0) : Answer → Answer → Type
 abbrev pub InBytes : (List ℕ → List ℕ → Type 0) → Number → Number → Type 0
 InBytes R n m = R (bytesOf n) (bytesOf m)
 
--- An operation keeps a relation: of related slots its arithmetic gives related answers. Those without arithmetic move whole slots, or none.
+-- An operation keeps a relation: of related slots its arithmetic gives related answers, in either edition. Those without arithmetic move whole slots, or none.
 abbrev pub Kept : (List ℕ → List ℕ → Type 0) → Operation → Type 0
-Kept R (one f) = (p p′ : List ℕ) → R p p′ → Answers (InBytes R) (f (numberIn p 0)) (f (numberIn p′ 0))
-Kept R (two f) = (p p′ q q′ : List ℕ) → R p p′ → R q q′ → Answers (InBytes R) (f (numberIn p 0) (numberIn q 0)) (f (numberIn p′ 0) (numberIn q′ 0))
+Kept R (one f) = (ed : Edition) (p p′ : List ℕ) → R p p′ → Answers (InBytes R) (f ed (numberIn p 0)) (f ed (numberIn p′ 0))
+Kept R (two f) = (ed : Edition) (p p′ q q′ : List ℕ) → R p p′ → R q q′ → Answers (InBytes R) (f ed (numberIn p 0) (numberIn q 0)) (f ed (numberIn p′ 0) (numberIn q′ 0))
 Kept R exchange = Unit
 Kept R delete = Unit
 Kept R duplicate = Unit
 Kept R unknown = Unit
 
--- Every slot is related to itself; related slots are malformed alike and shown alike; and every literal keeps the relation.
+-- Every slot is related to itself; related slots are malformed alike in either edition, and shown alike; and every literal keeps the relation.
 pub record Carried (R : List ℕ → List ℕ → Type 0) : Type 0 where
   pub same : (p : List ℕ) → R p p
-  pub forms : (p p′ : List ℕ) → R p p′ → malformed (numberIn p 0) ≡ malformed (numberIn p′ 0)
+  pub forms : (ed : Edition) (p p′ : List ℕ) → R p p′ → malformedIn ed (numberIn p 0) ≡ malformedIn ed (numberIn p′ 0)
   pub cells : (p p′ : List ℕ) → R p p′ → numberShown (numberIn p 0) ≡ numberShown (numberIn p′ 0)
   pub operations : (l : ℕ) → Kept R (operationOf l)
 
@@ -62,27 +62,27 @@ too-big-same too-big = refl
 
 -- ---- an operation
 
-module _ {R : List ℕ → List ℕ → Type 0} (c : Carried R) (d : ℕ) (s s′ : List ℕ) (a : Agree R d s s′) where
+module _ (ed : Edition) {R : List ℕ → List ℕ → Type 0} (c : Carried R) (d : ℕ) (s s′ : List ℕ) (a : Agree R d s s′) where
   stored-agrees : (i : ℕ) {v v′ : Answer} → Answers (InBytes R) v v′ → 5 * i + 5 ≤ length s → Agree R d (stored s i v) (stored s′ i v′)
   unfolding stored bytesOf
   stored-agrees i (done r) room = put-below d s s′ a i (record { long = refl; long′ = refl; related = r }) room
   stored-agrees i too-big room = a
 
-  answers-one : (f : Number → Answer) → Kept R (one f) → 1 ≤ d → Answers (InBytes R) (f (top s d)) (f (top s′ d))
-  answers-one f k h = of-numbers d s s′ a (λ x x′. Answers (InBytes R) (f x) (f x′)) k (d - 1) (omega arith)
+  answers-one : (f : Edition → Number → Answer) → Kept R (one f) → 1 ≤ d → Answers (InBytes R) (f ed (top s d)) (f ed (top s′ d))
+  answers-one f k h = of-numbers d s s′ a (λ x x′. Answers (InBytes R) (f ed x) (f ed x′)) (k ed) (d - 1) (omega arith)
 
-  answers-two : (f : Number → Number → Answer) → Kept R (two f) → 2 ≤ d → Answers (InBytes R) (f (lower s d) (top s d)) (f (lower s′ d) (top s′ d))
+  answers-two : (f : Edition → Number → Number → Answer) → Kept R (two f) → 2 ≤ d → Answers (InBytes R) (f ed (lower s d) (top s d)) (f ed (lower s′ d) (top s′ d))
   answers-two f k h =
-      of-numbers d s s′ a (λ x x′. Answers (InBytes R) (f x (top s d)) (f x′ (top s′ d))) (λ p p′ r.
-      of-numbers d s s′ a (λ y y′. Answers (InBytes R) (f (numberIn p 0) y) (f (numberIn p′ 0) y′)) (λ q q′ t. k p p′ q q′ r t) (d - 1) (omega arith))
+      of-numbers d s s′ a (λ x x′. Answers (InBytes R) (f ed x (top s d)) (f ed x′ (top s′ d))) (λ p p′ r.
+      of-numbers d s s′ a (λ y y′. Answers (InBytes R) (f ed (numberIn p 0) y) (f ed (numberIn p′ 0) y′)) (λ q q′ t. k ed p p′ q q′ r t) (d - 1) (omega arith))
       (d - 2) (omega arith)
 
-  form-same : (i : ℕ) → i < d → malformed (numberIn s i) ≡ malformed (numberIn s′ i)
-  form-same = of-numbers d s s′ a (λ x x′. malformed x ≡ malformed x′) (c .forms)
+  form-same : (i : ℕ) → i < d → malformedIn ed (numberIn s i) ≡ malformedIn ed (numberIn s′ i)
+  form-same = of-numbers d s s′ a (λ x x′. malformedIn ed x ≡ malformedIn ed x′) (c .forms ed)
 
   -- the three rows that look at the stack, by what the operation takes
   pub rows-same : (o : Operation) → Kept R o → takesOf o ≤ d
-      → (noRoomFor o s d ≡ noRoomFor o s′ d) × (malformedOperand o s d ≡ malformedOperand o s′ d) × (tooBig o s d ≡ tooBig o s′ d)
+      → (noRoomFor o s d ≡ noRoomFor o s′ d) × (malformedOperand ed o s d ≡ malformedOperand ed o s′ d) × (tooBig ed o s d ≡ tooBig ed o s′ d)
   unfolding noRoomFor malformedOperand tooBig
   rows-same exchange k h = (refl, refl, refl)
   rows-same delete k h = (refl, refl, refl)
@@ -93,7 +93,7 @@ module _ {R : List ℕ → List ℕ → Type 0} (c : Carried R) (d : ℕ) (s s�
 
   -- the bytes
   pub bytes-agree : 5 * d ≤ length s → (o : Operation) → Kept R o → takesOf o ≤ d → noRoomFor o s d ≡ false
-      → Agree R (d - takesOf o + leavesOf o) (bytesAfter o s d) (bytesAfter o s′ d)
+      → Agree R (d - takesOf o + leavesOf o) (bytesAfter ed o s d) (bytesAfter ed o s′ d)
   unfolding bytesAfter noRoomFor noRoom
   bytes-agree deep exchange k h r =
       let e : d - 2 + 2 ≡ d = omega arith in

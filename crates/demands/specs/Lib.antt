@@ -18,6 +18,8 @@ pub mod ButB5Stacks
 pub mod FifthByte
 pub mod Answered
 pub mod Demand3
+pub mod NoOddLaws
+pub mod NoOdd
 pub mod Report1
 pub mod Report6
 pub mod Products

@@ -8,6 +8,7 @@ use lib.Dec.{eqb}
 use lib.ListN.{length, length-append}
 use lib.Seq.{take-at, drop-at}
 use borrow.Author.Tests.{eqb-true, eqb-false}
+use Rattle.edition.specs.declared.Edition.the-variants.{Shipped}
 use Rattle.slots.specs.declared.outcome.Outcome.{Outcome}
 use Rattle.slots.specs.SlotLaws.{length-putSlot}
 use Rattle.slots.specs.Reports.{overLimits, pushReport}
@@ -46,11 +47,11 @@ module _ (s : List ℕ) (d : ℕ) (w : overLimits s d ≡ false) where
   pub done-within : (x : Step) → overLimits (doneBy s d x .1) (doneBy s d x .0 .depth) ≡ false
   unfolding doneBy
   done-within (push five) = push-within five
-  done-within (literal l) = go (eqb (reportOf s d l) 0) refl
+  done-within (literal l) = go (eqb (reportOf Shipped s d l) 0) refl
     where
-      go : (b : Bool) → eqb (reportOf s d l) 0 ≡ b → overLimits (operateOf s d l .1) (operateOf s d l .0 .depth) ≡ false
-      go true e = stays-within s d l (eqb-true _ _ e)
-      go false e = let k = refused-operation s d l (eqb-false _ _ e) in rw (k .0, k .1) w
+      go : (b : Bool) → eqb (reportOf Shipped s d l) 0 ≡ b → overLimits (operateOf Shipped s d l .1) (operateOf Shipped s d l .0 .depth) ≡ false
+      go true e = stays-within Shipped s d l (eqb-true _ _ e)
+      go false e = let k = refused-operation Shipped s d l (eqb-false _ _ e) in rw (k .0, k .1) w
 
 -- a record is sixteen bytes, the last seven of them zero
 pub record-length : (x : Step) (o : Outcome × List ℕ) → Recordable x → length (recordOf x o) ≡ 16
@@ -68,7 +69,7 @@ module _ (s : List ℕ) (d : ℕ) where
   pub same-step : (x : Step) → Recordable x → stepOf s d (recordOf x (doneBy s d x)) ≡ doneBy s d x
   unfolding recordOf doneBy
   same-step (push five) h = step-push s d (recordOf (push five) (pushOf s d five)) refl ∙ ap (pushOf s d) (take-at five (zeros 7) 5 h)
-  same-step (literal l) h = step-literal s d (recordOf (literal l) (operateOf s d l)) h
+  same-step (literal l) h = step-literal s d (recordOf (literal l) (operateOf Shipped s d l)) h
 
   module _ (w : overLimits s d ≡ false) where
     two-bytes : (x : Step) → doneBy s d x .0 .depth ≡ doneBy s d x .0 .depth % 256 + 256 * (doneBy s d x .0 .depth / 256 % 256)

@@ -5,6 +5,7 @@ use mathlib.Core.Path.{_≡_, refl}
 use mathlib.Core.List.{List}
 use native.Mathlib.Omega.{arith}
 use lib.ListN.{length}
+use Rattle.edition.specs.declared.Edition.the-variants.{Shipped}
 use Rattle.slots.specs.Reports.{overLimits}
 use Rattle.recording.specs.Recording.{literalIn, topIn, first, later, records, notARecording}
 use Rattle.replaying.specs.declared.answer.Replayed.{Replayed}
@@ -21,7 +22,7 @@ pub record ReplaysAlike (x x′ : Replayed × List ℕ) : Type 0 where
 module _ (d : ℕ) (s s′ : List ℕ) (a : Agree _≡_ d s s′) (x : List ℕ) where
   steps-alike : Alike _≡_ (stepOf s d x) (stepOf s′ d x)
   unfolding stepOf
-  steps-alike = choice (Alike _≡_) (isPush x) (λ e. pushes-alike d s s′ a (topIn x)) (λ e. operations-alike d s s′ a (literalIn x))
+  steps-alike = choice (Alike _≡_) (isPush x) (λ e. pushes-alike d s s′ a (topIn x)) (λ e. operations-alike d s s′ a Shipped (literalIn x))
 
   tops-same : topDiffers x s d ≡ topDiffers x s′ d
   unfolding topDiffers topOf

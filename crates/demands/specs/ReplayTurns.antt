@@ -7,6 +7,7 @@ use mathlib.Core.Bool.{Bool, true, false, false≢true, not, _&&_}
 use mathlib.Core.List.{List}
 use lib.Dec.{eqb}
 use borrow.Author.Tests.{eq-eqb, ne-eqb, eqb-true, eqb-false}
+use Rattle.edition.specs.declared.Edition.the-variants.{Shipped}
 use Rattle.slots.specs.declared.outcome.Outcome.{Outcome}
 use Rattle.recording.specs.Recording.{literalIn, reportIn, depthIn, topIn, first, later, same}
 use Rattle.recording.specs.RecordingLaws.{same-refl, same-true, same-by}
@@ -96,8 +97,8 @@ module _ (x s : List ℕ) (d : ℕ) (a : Agrees x s d) (h : reportIn x ≡ 0 →
       go false e =
           let q = step-literal s d x (eqb-false _ _ e) in
           rw q
-          (refused-operation s d (literalIn x)
-          (λ z. h (sym (a .report) ∙ ap (λ (y : Outcome × List ℕ). y .0 .report) q ∙ operation-report s d (literalIn x) ∙ z)))
+          (refused-operation Shipped s d (literalIn x)
+          (λ z. h (sym (a .report) ∙ ap (λ (y : Outcome × List ℕ). y .0 .report) q ∙ operation-report Shipped s d (literalIn x) ∙ z)))
 
 -- "and replay goes on."
 pub goes-on-refused : (n : ℕ) (r : List ℕ) (i : ℕ) (s : List ℕ) (d : ℕ) → Agrees (first r) s d → (reportIn (first r) ≡ 0 → ⊥)

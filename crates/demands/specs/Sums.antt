@@ -1,11 +1,13 @@
 -- Document 01's sums, by computation: the starred rows, together, the other rows with the edges of the rules, multiplication's, those that keep a b5, and the worked
--- run. Each row is an operation on a stack of its own.
+-- run, all of the shipped edition; then the mended edition's. Each row is an operation on a stack of its own.
 use Prim.Native.Nat.{ℕ}
 use mathlib.Core.Path.{_≡_, refl}
 use mathlib.Core.List.{List, [], _∷_, _++_, map}
 use lib.Count.{leadingZeros}
+use Rattle.edition.specs.declared.Edition.{Edition}
+use Rattle.edition.specs.declared.Edition.the-variants.{Shipped, Mended}
 use Rattle.number.specs.declared.Number.{Number}
-use Rattle.number.specs.Number.{bytes, zeros, formOf, malformed, passesZeroTest}
+use Rattle.number.specs.Number.{bytes, zeros, formOf, malformed, odd, passesZeroTest}
 use Rattle.number.specs.Value.{shortValue}
 use Rattle.number.specs.Restack.{restacked, fullOfShort}
 use Rattle.number.specs.Negate.{negated}
@@ -19,8 +21,8 @@ use Rattle.addition.specs.Addition.{aligned, endedSum, alignedSum, fullRoute, s
 use Rattle.truncation.specs.Int.{intOf}
 use Rattle.slots.specs.declared.outcome.Outcome.{Outcome}
 use Rattle.slots.specs.Slots.{slot, numberIn, bytesOf, putSlot}
-use Rattle.slots.specs.Reports.{overLimits, noRoom}
-use Rattle.slots.specs.Push.{settled}
+use Rattle.slots.specs.Reports.{overLimits, noRoom, notANumber, pushReport}
+use Rattle.slots.specs.Push.{settled, pushOf}
 use Rattle.literals.specs.Literals.{rowOf, operationOf, takes, leaves}
 use Rattle.literals.specs.Reports.{tooManyLiterals, notInTable, noRoomFor, malformedOperand, isTooBig, tooBig, reportOf}
 use Rattle.literals.specs.Operate.{stored, bytesAfter, operateOf}
@@ -47,9 +49,17 @@ refuses l x y r =
 abbrev turns : ℕ → Number → Number → Case
 turns l x z = record { stack = bytesOf x; depth = 1; literal = l; leaves = (record { report = 0; depth = 1 }, bytesOf z) }
 
--- each literal leaves what the row says
-abbrev pub Hold : List Case → Type 0
-Hold cs = map (λ (c : Case). operateOf (c .stack) (c .depth) (c .literal)) cs ≡ map (λ (c : Case). c .leaves) cs
+-- of one number, refused
+abbrev turnsDown : ℕ → Number → ℕ → Case
+turnsDown l x r = record { stack = bytesOf x; depth = 1; literal = l; leaves = (record { report = r; depth = 1 }, bytesOf x) }
+
+-- of numbers that are moved as they are: from the depth d to the depth e
+abbrev moves : ℕ → List ℕ → ℕ → ℕ → List ℕ → Case
+moves l s d e t = record { stack = s; depth = d; literal = l; leaves = (record { report = 0; depth = e }, t) }
+
+-- each literal leaves what the row says, in an edition
+abbrev pub Hold : Edition → List Case → Type 0
+Hold ed cs = map (λ (c : Case). operateOf ed (c .stack) (c .depth) (c .literal)) cs ≡ map (λ (c : Case). c .leaves) cs
 
 -- 3 subtracts, 4 multiplies, 5 divides, 15 adds, 27 negates, 39 is int, 58 truncates, 61 re-stacks.
 abbrev pub starred : List Case
@@ -164,27 +174,83 @@ fifth =
 -- bench 82 40 00 00 00 twice."
 abbrev pub WorkedRun : Type 0
 WorkedRun =
-    runOf (0 ∷ 0 ∷ 6 ∷ 0 ∷ 0 ∷ 0 ∷ 0 ∷ 2 ∷ 0 ∷ 0 ∷ []) 2 (5 ∷ 49 ∷ 49 ∷ [])
+    runOf Shipped (0 ∷ 0 ∷ 6 ∷ 0 ∷ 0 ∷ 0 ∷ 0 ∷ 2 ∷ 0 ∷ 0 ∷ []) 2 (5 ∷ 49 ∷ 49 ∷ [])
     ≡ (record { report = 4; position = 2; depth = 2 }, 0x82 ∷ 0x40 ∷ 0 ∷ 0 ∷ 0 ∷ 0x82 ∷ 0x40 ∷ 0 ∷ 0 ∷ 0 ∷ [])
 
-computed : Hold starred × Hold unstarred × Hold edges × Hold multiplied × Worked × WorkedRun × Hold fifth
+-- Document 02, A3, the mended edition. The 34th digit: a tenth, two thirds and an exponent byte of 255 round up, five thirds and an E of 0 do not move.
+-- -65,536: as a sum of any b5, as a difference and as int's last step; its neighbour -65,535 stays short, and keeps the first number's b5.
+-- Exponent byte 145: bits are cleared like its neighbours'; int of -65,536 is itself, and of what is below it one less.
+abbrev pub mended : List Case
+mended =
+    gives 5 (bytes 0x81 0 0 0 0) (bytes 0x84 0x20 0 0 0) (bytes 0x7D 0x4C 0xCC 0xCC 0xCD)
+    ∷ gives 5 (bytes 0x82 0 0 0 0) (bytes 0x82 0x40 0 0 0) (bytes 0x80 0x2A 0xAA 0xAA 0xAB)
+    ∷ gives 5 (bytes 0x83 0x20 0 0 0) (bytes 0x82 0x40 0 0 0) (bytes 0x81 0x55 0x55 0x55 0x55)
+    ∷ gives 5 (bytes 0xFF 0 0 0 0) (bytes 0x80 0x40 0 0 0) (bytes 0xFF 0x2A 0xAA 0xAA 0xAB)
+    ∷ refuses 5 (bytes 0xFF 0x7F 0xFF 0xFF 0xFF) (bytes 0x80 0 0 0 0) 6
+    ∷ gives 5 (bytes 0x01 0x80 0 0 0) (bytes 0x82 0 0 0 0) (bytes 0x01 0x80 0 0 0)
+    ∷ gives 15 (bytes 0 0xFF 0x18 0x02 0) (bytes 0 0xFF 0xE8 0xFD 0) (bytes 0x91 0x80 0 0 0)
+    ∷ gives 15 (bytes 0 0xFF 0x18 0x02 0x9B) (bytes 0 0xFF 0xE8 0xFD 0x11) (bytes 0x91 0x80 0 0 0)
+    ∷ gives 15 (bytes 0 0xFF 0x18 0x02 0x9B) (bytes 0 0xFF 0xE9 0xFD 0) (bytes 0 0xFF 0x01 0 0x9B)
+    ∷ gives 3 (bytes 0 0xFF 0x18 0x02 0x9B) (bytes 0 0 0x18 0x02 0) (bytes 0x91 0x80 0 0 0)
+    ∷ turns 58 (bytes 0x91 0x80 0 0x7F 0xFF) (bytes 0x91 0x80 0 0 0)
+    ∷ turns 58 (bytes 0x91 0x80 0 0 0) (bytes 0x91 0x80 0 0 0)
+    ∷ turns 58 (bytes 0x91 0x80 0 0x80 0) (bytes 0x91 0x80 0 0x80 0)
+    ∷ turns 39 (bytes 0x91 0x80 0 0 0) (bytes 0x91 0x80 0 0 0)
+    ∷ turns 39 (bytes 0x91 0x80 0 0x7F 0xFF) (bytes 0x91 0x80 0 0x80 0)
+    ∷ turns 39 (bytes 0x90 0xFF 0xFF 0x80 0) (bytes 0x91 0x80 0 0 0)
+    ∷ turns 39 (bytes 0x90 0xFF 0xFE 0x80 0) (bytes 0 0xFF 0x01 0 0)
+    ∷ turns 39 (bytes 0x90 0xFF 0xFE 0 0) (bytes 0 0xFF 0x02 0 0)
+    ∷ []
+
+-- "In this edition an odd operand is malformed (report 3)", the first or the second, before report 6; "literals 1, 2 and 49 [..] treat odd as before",
+-- and they do not look at a malformed one either.
+abbrev odd7 : Number
+odd7 = bytes 0 0xFF 0 0 0x07
+
+abbrev formless : Number
+formless = bytes 0 0x01 0 0 0
+
+abbrev pub mendedOdd : List Case
+mendedOdd =
+    refuses 15 (bytes 0 0xFF 0 0 0) (bytes 0 0xFF 0xFF 0xFF 0) 3
+    ∷ refuses 15 (bytes 0 0xFF 0xFF 0xFF 0) odd7 3
+    ∷ refuses 3 odd7 odd7 3
+    ∷ refuses 4 odd7 (bytes 0 0 0x05 0 0) 3
+    ∷ refuses 5 zeros odd7 3
+    ∷ turnsDown 27 odd7 3
+    ∷ turnsDown 39 odd7 3
+    ∷ turnsDown 58 odd7 3
+    ∷ turnsDown 61 odd7 3
+    ∷ moves 1 (bytesOf odd7 ++ bytesOf formless) 2 2 (bytesOf formless ++ bytesOf odd7)
+    ∷ moves 2 (bytesOf odd7) 1 0 (bytesOf odd7)
+    ∷ moves 49 (bytesOf odd7 ++ bytesOf zeros) 1 2 (bytesOf odd7 ++ bytesOf odd7)
+    ∷ moves 49 (bytesOf formless ++ bytesOf zeros) 1 2 (bytesOf formless ++ bytesOf formless)
+    ∷ []
+
+-- A push has no edition: odd is a number to it.
+abbrev pub PushedOdd : Type 0
+PushedOdd = pushOf (bytesOf zeros) 0 (bytesOf odd7) ≡ (record { report = 0; depth = 1 }, bytesOf odd7)
+
+computed : Hold Shipped starred × Hold Shipped unstarred × Hold Shipped edges × Hold Shipped multiplied × Worked × WorkedRun × Hold Shipped fifth
+    × Hold Mended mended × Hold Mended mendedOdd × PushedOdd
 unfolding
     runOf goOn operateOf settled reportOf bytesAfter stored slot putSlot bytesOf numberIn overLimits tooManyLiterals notInTable noRoom noRoomFor
-    malformed malformedOperand isTooBig tooBig operationOf takes leaves rowOf quotientOf restackedQuotient fullQuotient tried rounds normal closed ended
+    malformed odd malformedOperand isTooBig tooBig operationOf takes leaves rowOf quotientOf restackedQuotient fullQuotient tried rounds normal closed ended
     restacked fullOfShort formOf leadingZeros sumOf shortRoute fullRoute alignedSum endedSum aligned shortValue truncated truncatedFull taken65536
     intOf differenceOf negated passesZeroTest productOf restackedProduct fullProduct
-computed = (refl, refl, refl, refl, (refl, refl), refl, refl)
+    pushOf pushReport notANumber
+computed = (refl, refl, refl, refl, (refl, refl), refl, refl, refl, refl, refl)
 
-pub starred-hold : Hold starred
+pub starred-hold : Hold Shipped starred
 starred-hold = computed .0
 
-pub unstarred-hold : Hold unstarred
+pub unstarred-hold : Hold Shipped unstarred
 unstarred-hold = computed .1
 
-pub edges-hold : Hold edges
+pub edges-hold : Hold Shipped edges
 edges-hold = computed .2
 
-pub multiplied-hold : Hold multiplied
+pub multiplied-hold : Hold Shipped multiplied
 multiplied-hold = computed .3
 
 pub products-worked : Worked
@@ -193,5 +259,14 @@ products-worked = computed .4
 pub worked-run : WorkedRun
 worked-run = computed .5
 
-pub fifth-hold : Hold fifth
+pub fifth-hold : Hold Shipped fifth
 fifth-hold = computed .6
+
+pub mended-hold : Hold Mended mended
+mended-hold = computed .7
+
+pub mended-odd-hold : Hold Mended mendedOdd
+mended-odd-hold = computed .8
+
+pub odd-pushed : PushedOdd
+odd-pushed = computed .9

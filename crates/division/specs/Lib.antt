@@ -5,3 +5,4 @@ pub mod Operand
 pub mod DivisionLaws
 pub mod Demand3
 pub mod Demand3Laws
+pub mod NotOdd

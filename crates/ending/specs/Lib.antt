@@ -1,3 +1,4 @@
 pub mod Ending
 pub mod EndingLaws
 pub mod Ends
+pub mod NotOdd

@@ -5,3 +5,4 @@ pub mod Places
 pub mod ShortProduct
 pub mod Rounding
 pub mod RoundingLaws
+pub mod NotOdd

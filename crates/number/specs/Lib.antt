@@ -11,3 +11,4 @@ pub mod Negate
 pub mod NegateLaws
 pub mod Operand
 pub mod RestackNegated
+pub mod NotOdd

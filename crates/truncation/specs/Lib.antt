@@ -7,3 +7,4 @@ pub mod IntLaws
 pub mod FloorLaws
 pub mod StepLaws
 pub mod MendedLaws
+pub mod NotOdd
