@@ -4,7 +4,8 @@ use super::{Vectors, BOTH, MENDED, MINUS_65536, ODD, SHIPPED};
 use crate::case::{After, Call, Case};
 use crate::draw::{number, short};
 use crate::reference::literals::{
-    ADD, ALL, DELETE, DIVIDE, DUPLICATE, EXCHANGE, INT, NEGATE, RE_STACK, SUBTRACT, TRUNCATE,
+    ADD, ALL, DELETE, DIVIDE, DUPLICATE, EXCHANGE, INT, MULTIPLY, NEGATE, RE_STACK, SUBTRACT,
+    TRUNCATE,
 };
 use crate::Bytes;
 
@@ -43,15 +44,10 @@ fn two_literals(v: &mut Vectors) {
     }
 }
 
-/// Literals that leave two numbers as they are, so many of them.
+/// Literals that leave two numbers as they are: an even number of them.
 fn idle(count: usize) -> Vec<u8> {
     let pattern = [EXCHANGE, EXCHANGE, DUPLICATE, DELETE];
-    let mut literals: Vec<u8> = pattern.into_iter().cycle().take(count / 2 * 2).collect();
-    if count % 2 == 1 {
-        // One that changes no number which is full already, or the sign of one.
-        literals.insert(0, RE_STACK);
-    }
-    literals
+    pattern.into_iter().cycle().take(count).collect()
 }
 
 /// The literals that go by the edition, on two numbers, with what each edition leaves of them.
@@ -127,31 +123,31 @@ fn forgotten(v: &mut Vectors) {
 }
 
 fn refused_on_the_way(v: &mut Vectors) {
-    v.reason("A3: an odd number comes to the top of a run, or is below it, and report 3");
-    let good = number(0x83, 0x2000_0000);
-    for position in [0, 1, 2, 7, 254, 255, 256, 257, 300] {
-        for literal in [SUBTRACT, 4, DIVIDE, ADD, NEGATE, INT, TRUNCATE, RE_STACK] {
-            for edition in [MENDED, SHIPPED] {
-                let takes_two = matches!(literal, SUBTRACT | 4 | DIVIDE | ADD);
-                let slots = if takes_two {
-                    [ODD, good]
-                } else {
-                    [good, [0, 0xFF, 0, 0, 0x21]]
-                };
-                // Odd is not looked at before.
-                let mut literals: Vec<u8> = [DUPLICATE, DELETE]
-                    .into_iter()
-                    .cycle()
-                    .take(position)
-                    .collect();
-                if position % 2 == 1 {
-                    literals[position - 1] = DUPLICATE;
-                }
-                literals.extend([literal, DUPLICATE]);
-                let after = run(v, edition, &literals, &slots, 10);
-                if edition == MENDED && position % 2 == 0 {
-                    assert_eq!((after.report, after.position), (3, Some(position)));
-                }
+    v.reason("A3: an odd number on top in a run, or below it, and report 3");
+    let (good, odd) = (number(0x83, 0x2000_0000), [0, 0xFF, 0, 0, 0x21]);
+    for position in [0, 1, 2, 7, 255, 256, 257] {
+        // It is exchanged and copied before by literals that don't look at it.
+        let mut before = [DUPLICATE, DELETE].repeat(position / 2);
+        if position % 2 == 1 {
+            before.insert(0, EXCHANGE);
+        }
+        for (literal, places) in [
+            (SUBTRACT, 2),
+            (MULTIPLY, 2),
+            (DIVIDE, 2),
+            (ADD, 2),
+            (NEGATE, 1),
+            (INT, 1),
+            (TRUNCATE, 1),
+            (RE_STACK, 1),
+        ] {
+            let literals = [&before[..], &[literal, DUPLICATE]].concat();
+            for place in 1..=places {
+                let mut slots = [good; 2];
+                slots[(place + position) % 2] = odd;
+                run(v, SHIPPED, &literals, &slots, 10);
+                let after = run(v, MENDED, &literals, &slots, 10);
+                assert_eq!((after.report, after.position), (3, Some(position)));
             }
         }
     }
@@ -221,6 +217,8 @@ fn many(v: &mut Vectors) {
         for (pattern, slots) in [
             (&one_more[..], tenth),
             (&one_less[..], [short(-65_000, 0), short(-65_530, 1)]),
+            // The one is at -65,536 after 59,999 literals, the other after some 36,000.
+            (&one_less[..], [short(-60_536, 0), short(-62_500, 1)]),
         ] {
             let after = run(v, MENDED, &rounds(pattern, length), &slots, 10);
             assert_eq!((after.report, after.position), (report, Some(position)));
