@@ -7,6 +7,9 @@ pub enum Call {
     Operate(u8),
     Push(Vec<u8>),
     Run(Vec<u8>),
+    /// In the edition of a number, which stands first.
+    OperateIn(u8, u8),
+    RunIn(u8, Vec<u8>),
     /// Nothing is done: the view and the cell of the stack as it is, with this report.
     Cell(u8),
     /// Of a recording. It starts at depth 0, whatever the case's depth is.
@@ -48,6 +51,14 @@ impl Case {
             }
             Call::Run(literals) => {
                 let o = reference::run(&mut stack, self.depth, literals);
+                (o.report, Some(o.position), o.depth)
+            }
+            Call::OperateIn(edition, literal) => {
+                let o = reference::operate_in(*edition, &mut stack, self.depth, *literal);
+                (o.report, None, o.depth)
+            }
+            Call::RunIn(edition, literals) => {
+                let o = reference::run_in(*edition, &mut stack, self.depth, literals);
                 (o.report, Some(o.position), o.depth)
             }
             Call::Cell(report) => (*report, None, self.depth),

@@ -1,5 +1,7 @@
 //! Numbers, stacks and literals drawn so that interesting things happen often.
 
+pub mod minus_65536;
+
 use crate::reference::literals::{self, ALL};
 use crate::reference::number::re_stack;
 use crate::rng::Rng;
@@ -74,7 +76,8 @@ fn small_value(rng: &mut Rng) -> i32 {
     }
 }
 
-fn fifth(rng: &mut Rng) -> u8 {
+/// The fifth byte of a short number: often zero.
+pub fn fifth(rng: &mut Rng) -> u8 {
     if rng.one_in(3) {
         rng.byte()
     } else {

@@ -23,6 +23,22 @@ extern "C" {
         literals_len: usize,
         position: *mut usize,
     ) -> u8;
+    pub fn trenailer_operate_in(
+        edition: u8,
+        stack: *mut u8,
+        stack_len: usize,
+        depth: *mut usize,
+        literal: u8,
+    ) -> u8;
+    pub fn trenailer_run_in(
+        edition: u8,
+        stack: *mut u8,
+        stack_len: usize,
+        depth: *mut usize,
+        literals: *const u8,
+        literals_len: usize,
+        position: *mut usize,
+    ) -> u8;
     pub fn trenailer_view(
         stack: *const u8,
         stack_len: usize,
@@ -77,6 +93,33 @@ pub fn run(stack: &mut [u8], depth: &mut usize, literals: &[u8], position: &mut 
     // SAFETY: as for operate.
     unsafe {
         trenailer_run(
+            stack.as_mut_ptr(),
+            stack.len(),
+            depth,
+            literals.as_ptr(),
+            literals.len(),
+            position,
+        )
+    }
+}
+
+/// In the edition of a number.
+pub fn operate_in(edition: u8, stack: &mut [u8], depth: &mut usize, literal: u8) -> u8 {
+    // SAFETY: as for operate.
+    unsafe { trenailer_operate_in(edition, stack.as_mut_ptr(), stack.len(), depth, literal) }
+}
+
+pub fn run_in(
+    edition: u8,
+    stack: &mut [u8],
+    depth: &mut usize,
+    literals: &[u8],
+    position: &mut usize,
+) -> u8 {
+    // SAFETY: as for operate.
+    unsafe {
+        trenailer_run_in(
+            edition,
             stack.as_mut_ptr(),
             stack.len(),
             depth,

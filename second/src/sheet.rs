@@ -1,9 +1,9 @@
-//! What `calc` answers to a sheet, a step a line: the report, the depth and the top's bytes.
+//! What `calc` answers to a sheet, a line a step: the report, the depth and the top's bytes.
 
 use crate::draw::short;
+use crate::reference::edition::BOTH;
 use crate::reference::literals::{ALL, NAMES};
-use crate::reference::replay::Record;
-use crate::reference::view;
+use crate::reference::{step, view, Edition};
 use crate::text::spaced;
 use crate::{Bytes, Step};
 
@@ -22,15 +22,28 @@ pub struct Followed {
     pub unreadable: Option<usize>,
 }
 
+/// What a line of a sheet says: a step, or the edition from there on, which is no step.
+#[derive(Clone, Copy, Debug, PartialEq, Eq)]
+pub enum Line {
+    Step(Step),
+    Edition(Edition),
+}
+
 pub fn follow(input: &[u8]) -> Followed {
     let mut stack = vec![0; STACK_LEN];
     let mut depth = 0;
+    let mut edition = Edition::Shipped;
     let mut answers = String::new();
-    let (steps, unreadable) = steps(input);
-    for (_, step) in steps {
-        let made = Record::of(step, &mut stack, depth);
-        depth = made.depth;
-        answers += &format!("{}\n", answer(made.report, &stack, depth));
+    let (lines, unreadable) = read(input);
+    for (_, line) in lines {
+        match line {
+            Line::Edition(named) => edition = named,
+            Line::Step(given) => {
+                let after = step(edition, given, &mut stack, depth);
+                depth = after.depth;
+                answers += &format!("{}\n", answer(after.report, &stack, depth));
+            }
+        }
     }
     if let Some(line) = unreadable {
         answers += &format!("? line {line}\n");
@@ -50,23 +63,24 @@ pub fn answer(report: u8, stack: &[u8], depth: usize) -> String {
     format!("{report} {depth} {top}")
 }
 
-/// The steps of a sheet, each with the number of its line, up to the line that can't be read.
-pub fn steps(input: &[u8]) -> (Vec<(usize, Step)>, Option<usize>) {
-    let mut steps = Vec::new();
+/// What the lines of a sheet say, each with its number, up to the line that can't be read. Those
+/// with nothing before their comment say nothing.
+pub fn read(input: &[u8]) -> (Vec<(usize, Line)>, Option<usize>) {
+    let mut said = Vec::new();
     let input = input.strip_prefix(BYTE_ORDER_MARK).unwrap_or(input);
-    for (i, line) in lines(input).into_iter().enumerate() {
-        let Some(words) = words(line) else {
-            return (steps, Some(i + 1));
+    for (i, text) in lines(input).into_iter().enumerate() {
+        let Some(words) = words(text) else {
+            return (said, Some(i + 1));
         };
         if words.is_empty() {
             continue;
         }
-        let Some(step) = step(&words) else {
-            return (steps, Some(i + 1));
+        let Some(line) = line(&words) else {
+            return (said, Some(i + 1));
         };
-        steps.push((i + 1, step));
+        said.push((i + 1, line));
     }
-    (steps, None)
+    (said, None)
 }
 
 /// A line ends with a line feed, a carriage return, or a carriage return and a line feed. The
@@ -96,20 +110,25 @@ fn words(line: &[u8]) -> Option<Vec<&[u8]>> {
     })
 }
 
-fn step(words: &[&[u8]]) -> Option<Step> {
+fn line(words: &[&[u8]]) -> Option<Line> {
     match words {
-        [b"push", n] => pushed(n).map(Step::Push),
+        [b"edition", name] => {
+            let named = |edition: &Edition| edition.name().as_bytes() == *name;
+            BOTH.into_iter().find(named).map(Line::Edition)
+        }
+        [b"push", n] => pushed(n).map(Step::Push).map(Line::Step),
         [b"literal", n] => {
-            let literal = decimal(n)?;
-            u8::try_from(literal).ok().map(Step::Literal)
+            let literal = u8::try_from(decimal(n)?).ok()?;
+            Some(Line::Step(Step::Literal(literal)))
         }
         [name] => {
             let i = NAMES.iter().position(|known| known.as_bytes() == *name)?;
-            Some(Step::Literal(ALL[i]))
+            Some(Line::Step(Step::Literal(ALL[i])))
         }
         [_, _, _, _, _] => {
             let number: Option<Vec<u8>> = words.iter().map(|word| byte(word)).collect();
-            Bytes::try_from(number?).ok().map(Step::Push)
+            let number = Bytes::try_from(number?).ok()?;
+            Some(Line::Step(Step::Push(number)))
         }
         _ => None,
     }

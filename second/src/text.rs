@@ -56,6 +56,8 @@ pub fn case_line(case: &Case) -> String {
         Call::Operate(literal) => ('o', vec![*literal]),
         Call::Push(number) => ('p', number.clone()),
         Call::Run(literals) => ('r', literals.clone()),
+        Call::OperateIn(edition, literal) => ('O', vec![*edition, *literal]),
+        Call::RunIn(edition, literals) => ('R', [&[*edition], literals.as_slice()].concat()),
         Call::Cell(report) => ('c', vec![*report]),
         Call::Replay(recording) => ('y', recording.clone()),
     };

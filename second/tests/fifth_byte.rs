@@ -2,11 +2,19 @@
 //! it, and that it changes nothing else of a run.
 
 use second::draw;
-use second::reference::addition::{add, subtract};
-use second::reference::literals::{malformed, NEGATE, TRUNCATE};
-use second::reference::{cell, operate, run, slot};
+use second::reference::edition::BOTH;
+use second::reference::literals::{malformed, malformed_operand, NEGATE, TRUNCATE};
+use second::reference::{addition, cell, operate, run_of, slot, Edition};
 use second::rng::Rng;
 use second::Bytes;
+
+fn add(first: Bytes, second: Bytes) -> Option<Bytes> {
+    addition::add(Edition::Shipped, first, second)
+}
+
+fn subtract(first: Bytes, second: Bytes) -> Option<Bytes> {
+    addition::subtract(Edition::Shipped, first, second)
+}
 
 /// Of a number that is not malformed.
 fn is_short_or_odd(x: Bytes) -> bool {
@@ -66,13 +74,18 @@ fn addition_commutes_but_for_b5_of_a_short_or_odd_result() {
     let mut rng = Rng::new(2);
     let (mut tried, mut other_b5, mut odd) = (0, 0, 0);
     while tried < 500_000 {
+        let edition = rng.pick(&BOTH);
         let first = draw::well_formed(&mut rng);
         let second = draw::beside(&mut rng, first);
-        if malformed(second) {
+        if [first, second]
+            .iter()
+            .any(|&x| malformed_operand(edition, x))
+        {
             continue;
         }
         tried += 1;
-        let words = format!("{first:02X?} and {second:02X?}");
+        let words = format!("{edition:?}: {first:02X?} and {second:02X?}");
+        let add = |first, second| addition::add(edition, first, second);
         match (add(first, second), add(second, first)) {
             (Some(sum), Some(turned)) => {
                 assert!(same_but_for_b5(sum, turned), "{words}");
@@ -101,6 +114,7 @@ fn no_report_position_depth_or_cell_of_a_run_goes_by_b5() {
     let mut rng = Rng::new(22);
     let (mut done, mut left_other) = (0, 0);
     for _ in 0..500_000 {
+        let edition = rng.pick(&BOTH);
         let slots = rng.below(7) as usize;
         let stack = draw::stack(&mut rng, slots);
         let depth = draw::depth(&mut rng, slots);
@@ -110,9 +124,9 @@ fn no_report_position_depth_or_cell_of_a_run_goes_by_b5() {
         if a == b {
             continue;
         }
-        let words = format!("{list:?} on {a:02X?} and on {b:02X?} at {depth}");
-        let answer = run(&mut a, depth, &list);
-        assert_eq!(run(&mut b, depth, &list), answer, "{words}");
+        let words = format!("{edition:?}: {list:?} on {a:02X?} and on {b:02X?} at {depth}");
+        let answer = run_of(edition, &mut a, depth, &list);
+        assert_eq!(run_of(edition, &mut b, depth, &list), answer, "{words}");
         let shown = cell(answer.report, &a, answer.depth);
         assert_eq!(cell(answer.report, &b, answer.depth), shown, "{words}");
         let mut all = (0..slots).map(|i| (slot(&a, i), slot(&b, i)));

@@ -55,6 +55,29 @@ fn record_has_refusals_with_the_depth_and_the_top_as_they_stay() {
 }
 
 #[test]
+fn record_is_of_the_shipped_edition() {
+    let tenth = [5, 0, 1, 0, 0x7D, 0x4C, 0xCC, 0xCC, 0xCC];
+    let one = [0, 0, 1, 0, 0, 0, 1, 0, 0];
+    let ten = [0, 0, 2, 0, 0, 0, 10, 0, 0];
+    recorded(
+        "edition shipped\npush 1\npush 10\n edition\tshipped # so\ndivide\nedition shipped",
+        &[one, ten, tenth],
+    );
+    recorded("edition shipped", &[]);
+    assert_eq!(record(b"edition mended\n"), Err(1));
+    assert_eq!(record(b"push 1\n\nedition mended # x\npush"), Err(3));
+    assert_eq!(record(b"edition shipped\n\tedition  mended"), Err(2));
+    assert_eq!(record(b"edition shipped\nedition"), Err(2));
+    assert_eq!(record(b"literal 0\nedition mended"), Err(1));
+    // It is no step: 4,000 of those still fit.
+    let most = "push 1\ndelete\n".repeat(2_000) + "edition shipped\n";
+    assert_eq!(record(most.as_bytes()).map(|bytes| bytes.len()), Ok(64_000));
+    let mended = most.clone() + "edition mended";
+    assert_eq!(record(mended.as_bytes()), Err(4_002));
+    assert_eq!(record((most + "delete").as_bytes()), Err(4_002));
+}
+
+#[test]
 fn record_stops_at_a_line() {
     assert_eq!(record(b"push 1\n\n# x\npush\n"), Err(4));
     assert_eq!(record(b"push 1\nliteral 0\nx\n"), Err(2));

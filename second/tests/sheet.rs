@@ -240,6 +240,120 @@ fn other_bytes_are_no_blanks() {
 }
 
 #[test]
+fn an_edition_holds_from_its_line_on_and_has_no_answer() {
+    let (shipped, mended) = ("0 1 7D 4C CC CC CC", "0 1 7D 4C CC CC CD");
+    let tenth = "push 1\npush 10\ndivide\ndelete\n";
+    let answers = |tenth| ["0 1 00 00 01 00 00", "0 2 00 00 0A 00 00", tenth, "0 0 -"];
+    answered(tenth, &answers(shipped));
+    answered(format!("edition shipped\n{tenth}"), &answers(shipped));
+    answered(format!("edition mended\n{tenth}"), &answers(mended));
+    let both = [answers(shipped), answers(mended)].concat();
+    answered(format!("{tenth}edition mended\n{tenth}"), &both);
+    let again = [answers(mended), answers(shipped), answers(shipped)].concat();
+    answered(
+        format!("edition mended\n{tenth}edition shipped\n{tenth}{tenth}"),
+        &again,
+    );
+    // The last that is named holds, and naming it once more changes nothing.
+    answered(
+        format!("edition mended\nedition shipped\nedition mended\nedition mended\n{tenth}"),
+        &answers(mended),
+    );
+    // Blanks, comments and ends of a line are as of any other.
+    for line in [
+        "edition  mended",
+        " \tedition \t mended\t ",
+        "edition mended# so",
+        "edition mended # edition shipped",
+        "# x\r\redition mended\r",
+        "\u{FEFF}edition mended",
+    ] {
+        answered(format!("{line}\n{tenth}"), &answers(mended));
+    }
+    answered("edition mended", &[]);
+    // The stack and its depth stay as they are.
+    answered(
+        "push 1\nedition mended\npush 2\nedition shipped\nadd",
+        &[
+            "0 1 00 00 01 00 00",
+            "0 2 00 00 02 00 00",
+            "0 1 00 00 03 00 00",
+        ],
+    );
+}
+
+#[test]
+fn only_literals_go_by_the_edition() {
+    // -65,536 is made, copied and used in the one, then made in the other.
+    answered(
+        "00 FF 18 02 5A\n00 FF E8 FD 00\nadd\nedition mended\nduplicate\nnegate\nexchange\n\
+         delete\n00 FF 00 00 07\nint\ndelete\nedition shipped\nint",
+        &[
+            "0 1 00 FF 18 02 5A",
+            "0 2 00 FF E8 FD 00",
+            "0 1 00 FF 00 00 5A",
+            "0 2 00 FF 00 00 5A",
+            "3 2 00 FF 00 00 5A",
+            "0 2 00 FF 00 00 5A",
+            "0 1 00 FF 00 00 5A",
+            "0 2 00 FF 00 00 07",
+            "3 2 00 FF 00 00 07",
+            "0 1 00 FF 00 00 5A",
+            "0 1 81 80 00 00 00",
+        ],
+    );
+    answered(
+        "edition mended\n00 FF 18 02 5A\n00 FF E8 FD 00\nadd\ntruncate\nint\nnegate",
+        &[
+            "0 1 00 FF 18 02 5A",
+            "0 2 00 FF E8 FD 00",
+            "0 1 91 80 00 00 00",
+            "0 1 91 80 00 00 00",
+            "0 1 91 80 00 00 00",
+            "0 1 91 00 00 00 00",
+        ],
+    );
+}
+
+#[test]
+fn an_edition_is_shipped_or_mended() {
+    for line in [
+        "edition",
+        "edition ",
+        "edition # mended",
+        "edition 0",
+        "edition 1",
+        "edition new",
+        "edition Mended",
+        "edition MENDED",
+        "edition mende",
+        "edition mendedd",
+        "edition mended.",
+        "edition mended mended",
+        "edition mended shipped",
+        "edition mended 1",
+        "edition a b c d",
+        "edition ship",
+        "edition shipped,",
+        "edition shippedd",
+        "edition -mended",
+        "Edition mended",
+        "EDITION mended",
+        "editionmended",
+        "edition-mended",
+        "edition=mended",
+        "editions mended",
+        "editio mended",
+        "mended",
+        "shipped",
+        "mended edition",
+    ] {
+        stopped(line, 1, &[]);
+        stopped(format!("edition mended\n{line}\npush 1"), 2, &[]);
+    }
+}
+
+#[test]
 fn a_refused_step_is_an_answer_and_the_steps_go_on() {
     answered(
         "add\npush 1\npush 0\ndivide\nliteral 6\ndelete\n",

@@ -1,8 +1,12 @@
-//! `rom N IMAGE [SEED]`: N random operations of the ROM's calculator, held to the reference.
+//! `rom N IMAGE [SEED]`: N random operations of the ROM's calculator in each edition, held to the
+//! reference.
 
+use second::reference::edition::BOTH;
+use second::reference::Edition;
 use second::rng::Rng;
-use second::rom::machine::{patched, Machine};
-use second::rom::{one, Found, COMPARED};
+use second::rom::machine::{of_edition, Machine};
+use second::rom::{one, Found, Known, COMPARED};
+use std::ops::AddAssign;
 use std::process::ExitCode;
 
 /// So many differences are printed for each literal.
@@ -23,55 +27,91 @@ fn main() -> ExitCode {
         return ExitCode::from(2);
     };
     let image = std::fs::read(image).map_err(|error| error.to_string());
-    match image.and_then(patched) {
-        Ok(image) => compare(count, seed, &mut Machine::new(&image)),
-        Err(words) => {
-            eprintln!("the ROM image: {words}");
-            ExitCode::from(2)
-        }
-    }
-}
-
-fn compare(count: u64, seed: u64, machine: &mut Machine) -> ExitCode {
-    let mut rng = Rng::new(seed);
-    let (mut all_agreed, mut all_fifth, mut all_differ) = (0, 0, 0);
-    let literals = COMPARED.len() as u64;
-    for (i, (literal, name)) in COMPARED.into_iter().enumerate() {
-        let share = count / literals + u64::from((i as u64) < count % literals);
-        let (mut agreed, mut fifth, mut differ) = (0, 0, 0);
-        for _ in 0..share {
-            match one(&mut rng, machine, literal) {
-                Found::Agreed { fifth_byte } => {
-                    agreed += 1;
-                    fifth += u64::from(fifth_byte);
-                }
-                Found::Differs(words) => {
-                    differ += 1;
-                    if differ <= PRINTED {
-                        println!("{name} differs: {words}");
-                    }
-                }
+    let mut differ = 0;
+    for edition in BOTH {
+        match image.clone().and_then(|image| of_edition(edition, image)) {
+            Ok(image) => differ += compare(count, seed, edition, &mut Machine::new(&image)),
+            Err(words) => {
+                eprintln!("the ROM image: {words}");
+                return ExitCode::from(2);
             }
         }
-        println!("{name}: {agreed} agreed{}, {differ} differ", among(fifth));
-        all_agreed += agreed;
-        all_fifth += fifth;
-        all_differ += differ;
     }
-    let fifth = among(all_fifth);
-    println!("{all_agreed} cases agreed{fifth}, {all_differ} differ");
-    if all_differ == 0 {
+    if differ == 0 {
         ExitCode::SUCCESS
     } else {
         ExitCode::FAILURE
     }
 }
 
-/// How many of those that agreed are short sums with a fifth byte, which literals of other kinds
-/// have none of.
-fn among(fifth: u64) -> String {
-    match fifth {
-        0 => String::new(),
-        _ => format!(" ({fifth} of them short sums whose b5 is not zero)"),
+/// How many cases of an edition differ.
+fn compare(count: u64, seed: u64, edition: Edition, machine: &mut Machine) -> u64 {
+    println!("the {} edition", edition.name());
+    let mut rng = Rng::new(seed);
+    let mut all = Counts::default();
+    let literals = COMPARED.len() as u64;
+    for (i, (literal, name)) in COMPARED.into_iter().enumerate() {
+        let share = count / literals + u64::from((i as u64) < count % literals);
+        let mut counts = Counts::default();
+        for _ in 0..share {
+            match one(&mut rng, machine, edition, literal) {
+                Found::Agreed { fifth_byte } => {
+                    counts.agreed += 1;
+                    counts.fifth += u64::from(fifth_byte);
+                }
+                Found::Known(Known::Odd) => counts.odd += 1,
+                Found::Known(Known::FifthByte) => counts.minus_65536 += 1,
+                Found::Differs(words) => {
+                    counts.differ += 1;
+                    if counts.differ <= PRINTED {
+                        println!("{name} differs: {words}");
+                    }
+                }
+            }
+        }
+        println!("{name}: {}", counts.words("agreed"));
+        all += counts;
+    }
+    println!("{}", all.words("cases agreed"));
+    all.differ
+}
+
+#[derive(Clone, Copy, Default)]
+struct Counts {
+    agreed: u64,
+    /// Of those that agreed: short sums with a fifth byte, which other literals have none of.
+    fifth: u64,
+    /// Known differences of the mended edition.
+    odd: u64,
+    minus_65536: u64,
+    differ: u64,
+}
+
+impl AddAssign for Counts {
+    fn add_assign(&mut self, other: Counts) {
+        self.agreed += other.agreed;
+        self.fifth += other.fifth;
+        self.odd += other.odd;
+        self.minus_65536 += other.minus_65536;
+        self.differ += other.differ;
+    }
+}
+
+impl Counts {
+    fn words(&self, agreed: &str) -> String {
+        let mut words = format!("{} {agreed}", self.agreed);
+        if self.fifth > 0 {
+            words += &format!(" ({} of them short sums whose b5 is not zero)", self.fifth);
+        }
+        let (odd, sums) = (self.odd, self.minus_65536);
+        let of_sums = match sums {
+            0 => String::new(),
+            _ => format!(", {sums} sums of -65536 with a b5"),
+        };
+        if odd + sums > 0 {
+            let known = odd + sums;
+            words += &format!(", {known} otherwise, as known ({odd} odd operands{of_sums})");
+        }
+        words + &format!(", {} differ", self.differ)
     }
 }

@@ -1,7 +1,7 @@
 //! What a random call is given.
 
 use super::recordings;
-use crate::draw;
+use crate::draw::{self, minus_65536};
 use crate::rng::Rng;
 use crate::text::counted;
 use std::fmt;
@@ -12,6 +12,9 @@ pub enum Call {
     Operate(u8),
     Push(Box<[u8]>),
     Run(Box<[u8]>),
+    /// In the edition of a number, which stands first.
+    OperateIn(u8, u8),
+    RunIn(u8, Box<[u8]>),
     View,
     Cell(u8),
     Replay(Box<[u8]>),
@@ -36,12 +39,15 @@ impl Given {
             let junk = rng.bits() as usize;
             (Call::Replay(recording), stack, junk)
         } else {
-            let (stack, depth) = stack(rng);
-            let call = match rng.below(20) {
-                0..=8 => Call::Operate(draw::literal(rng)),
-                9..=10 => Call::Push(pushed(rng)),
-                11..=14 => Call::Run(list(rng)),
-                15..=16 => Call::View,
+            let (mut stack, depth) = stack(rng);
+            minus_65536::on_top(rng, 6, &mut stack, depth);
+            let call = match rng.below(28) {
+                0..=6 => Call::Operate(draw::literal(rng)),
+                7..=13 => Call::OperateIn(edition(rng), draw::literal(rng)),
+                14..=15 => Call::Push(pushed(rng)),
+                16..=18 => Call::Run(list(rng)),
+                19..=22 => Call::RunIn(edition(rng), list(rng)),
+                23..=24 => Call::View,
                 _ if rng.one_in(4) => Call::Cell(rng.byte()),
                 _ => Call::Cell(0),
             };
@@ -55,6 +61,16 @@ impl Given {
             old_byte: rng.byte(),
             old_bits: rng.bits(),
         }
+    }
+}
+
+/// Mostly the mended one, which the old calls never are; now and then a number that is none.
+fn edition(rng: &mut Rng) -> u8 {
+    match rng.below(24) {
+        0 => rng.byte(),
+        1 => 2,
+        2..=7 => 0,
+        _ => 1,
     }
 }
 
@@ -122,6 +138,12 @@ impl fmt::Display for Given {
             Call::Operate(literal) => write!(f, "operate, literal {literal}")?,
             Call::Push(number) => write!(f, "push of {}", counted(number))?,
             Call::Run(literals) => write!(f, "run of {}", counted(literals))?,
+            Call::OperateIn(edition, literal) => {
+                write!(f, "operate in edition {edition}, literal {literal}")?;
+            }
+            Call::RunIn(edition, literals) => {
+                write!(f, "run in edition {edition} of {}", counted(literals))?;
+            }
             Call::View => write!(f, "view")?,
             Call::Cell(report) => write!(f, "cell, report {report}")?,
             Call::Replay(recording) => write!(f, "replay of {}", counted(recording))?,

@@ -55,6 +55,15 @@ pub fn reference(given: &Given) -> Seen {
             (seen.answer, seen.depth) = (o.report.into(), o.depth);
             seen.word = o.position;
         }
+        Call::OperateIn(edition, literal) => {
+            let o = reference::operate_in(*edition, &mut stack, given.depth, *literal);
+            (seen.answer, seen.depth) = (o.report.into(), o.depth);
+        }
+        Call::RunIn(edition, literals) => {
+            let o = reference::run_in(*edition, &mut stack, given.depth, literals);
+            (seen.answer, seen.depth) = (o.report.into(), o.depth);
+            seen.word = o.position;
+        }
         Call::View => {
             if let Some(start) = reference::view(&stack, given.depth) {
                 (seen.answer, seen.word) = (5, start);
@@ -101,6 +110,13 @@ fn call(given: &Given, stack: &mut [u8], seen: &mut Seen) {
         Call::Operate(literal) => native::operate(stack, &mut seen.depth, *literal).into(),
         Call::Push(number) => native::push(stack, &mut seen.depth, number).into(),
         Call::Run(literals) => native::run(stack, &mut seen.depth, literals, &mut seen.word).into(),
+        Call::OperateIn(edition, literal) => {
+            native::operate_in(*edition, stack, &mut seen.depth, *literal).into()
+        }
+        Call::RunIn(edition, literals) => {
+            let (depth, position) = (&mut seen.depth, &mut seen.word);
+            native::run_in(*edition, stack, depth, literals, position).into()
+        }
         Call::View => native::view(stack, given.depth, &mut seen.word),
         Call::Cell(report) => {
             let mut value = f64::from_bits(given.old_bits);

@@ -8,13 +8,16 @@ use crate::sheets::draw as sheets;
 use crate::text::spaced;
 use crate::Step;
 
+/// What a sheet may name: the other is a line that `record` can't read, and so a slip.
+const EDITIONS: [&str; 1] = ["shipped"];
+
 /// One in five has a slip, one in eight a literal 0 between other lines, and a few are about as
 /// long as a recording may be.
 pub fn sheet(rng: &mut Rng) -> Vec<u8> {
     if rng.one_in(200) {
         return long(rng);
     }
-    let mut sheet = sheets::sheet(rng, 5);
+    let mut sheet = sheets::sheet(rng, 5, &EDITIONS);
     if rng.one_in(8) {
         sheet.extend(b"\n");
         sheet.extend(
@@ -22,7 +25,7 @@ pub fn sheet(rng: &mut Rng) -> Vec<u8> {
                 .bytes(),
         );
         sheet.extend(b"\n");
-        sheet.extend(sheets::sheet(rng, 5));
+        sheet.extend(sheets::sheet(rng, 5, &EDITIONS));
     }
     sheet
 }
@@ -40,8 +43,15 @@ fn long(rng: &mut Rng) -> Vec<u8> {
     }
     if rng.one_in(4) {
         sheet.extend(
-            rng.pick(&["push", "literal 0", "# the end", "delete"])
-                .bytes(),
+            rng.pick(&[
+                "push",
+                "literal 0",
+                "# the end",
+                "delete",
+                "edition shipped",
+                "edition mended",
+            ])
+            .bytes(),
         );
     }
     sheet

@@ -1,25 +1,31 @@
-//! Document 01, "Addition and subtraction (003)", with A2's fifth byte of a short sum.
+//! Document 01, "Addition and subtraction (003)", with A2's fifth byte of a short sum and A3's
+//! -65,536.
 
+use super::edition::Edition;
 use super::ending::ending;
-use super::number::{form, negate, pow2, re_stacked, store_short, Form, Scaled};
+use super::number::{form, negate, pow2, re_stacked, store_short, Form, Scaled, MINUS_65536};
 use crate::Bytes;
 
 /// `None` is report 6. The operands are well formed.
-pub fn add(first: Bytes, second: Bytes) -> Option<Bytes> {
+pub fn add(edition: Edition, first: Bytes, second: Bytes) -> Option<Bytes> {
     if let (Some(a), Some(b)) = (short_value(first), short_value(second)) {
         if (-65_536..=65_535).contains(&(a + b)) {
-            return Some(stored_over(first, a + b));
+            return Some(stored_over(edition, first, a + b));
         }
     }
     add_full(re_stacked(first), re_stacked(second))
 }
 
-pub fn subtract(first: Bytes, second: Bytes) -> Option<Bytes> {
-    add(first, negate(second))
+pub fn subtract(edition: Edition, first: Bytes, second: Bytes) -> Option<Bytes> {
+    add(edition, first, negate(second))
 }
 
-/// A2: only the second, third and fourth bytes of a short sum are stored, odd ones included.
-fn stored_over(first: Bytes, sum: i128) -> Bytes {
+/// A2: only the second, third and fourth bytes of a short sum are stored, odd ones included. A3:
+/// the mended edition has none of those, and writes -65,536 in full.
+fn stored_over(edition: Edition, first: Bytes, sum: i128) -> Bytes {
+    if edition == Edition::Mended && sum == -65_536 {
+        return MINUS_65536;
+    }
     let [b1, _, _, _, b5] = first;
     let [_, b2, b3, b4, _] = store_short(sum);
     [b1, b2, b3, b4, b5]

@@ -3,6 +3,7 @@
 
 use super::addition::{add, subtract};
 use super::division::divide;
+use super::edition::Edition;
 use super::multiplication::multiply;
 use super::number::{form, negate, re_stack, Form};
 use super::truncation::{int, truncate};
@@ -57,19 +58,28 @@ pub fn malformed(b: Bytes) -> bool {
     form(b) == Form::Malformed
 }
 
+/// Whether such a literal refuses it with report 3. A3: in the mended edition odd is malformed too,
+/// as an operand; everything else takes it as before.
+pub fn malformed_operand(edition: Edition, b: Bytes) -> bool {
+    match edition {
+        Edition::Shipped => malformed(b),
+        Edition::Mended => malformed(b) || form(b) == Form::Odd,
+    }
+}
+
 /// What a literal leaves in place of `taken`, lowest first; `None` is report 6.
-pub fn leaves(literal: u8, taken: &[Bytes]) -> Option<Vec<Bytes>> {
+pub fn leaves(edition: Edition, literal: u8, taken: &[Bytes]) -> Option<Vec<Bytes>> {
     Some(match (literal, taken) {
         (EXCHANGE, &[first, second]) => vec![second, first],
         (DELETE, _) => vec![],
-        (SUBTRACT, &[first, second]) => vec![subtract(first, second)?],
+        (SUBTRACT, &[first, second]) => vec![subtract(edition, first, second)?],
         (MULTIPLY, &[first, second]) => vec![multiply(first, second)?],
-        (DIVIDE, &[first, second]) => vec![divide(first, second)?],
-        (ADD, &[first, second]) => vec![add(first, second)?],
+        (DIVIDE, &[first, second]) => vec![divide(edition, first, second)?],
+        (ADD, &[first, second]) => vec![add(edition, first, second)?],
         (NEGATE, &[x]) => vec![negate(x)],
-        (INT, &[x]) => vec![int(x)?],
+        (INT, &[x]) => vec![int(edition, x)?],
         (DUPLICATE, &[x]) => vec![x, x],
-        (TRUNCATE, &[x]) => vec![truncate(x)],
+        (TRUNCATE, &[x]) => vec![truncate(edition, x)],
         (RE_STACK, &[x]) => vec![re_stack(x)],
         _ => unreachable!("literal {literal} does not take {} numbers", taken.len()),
     })

@@ -4,6 +4,9 @@ use crate::{Bytes, ZERO};
 
 pub const ODD: Bytes = [0, 0xFF, 0, 0, 0];
 
+/// The full number of that value, which odd stands for in a short sum.
+pub const MINUS_65536: Bytes = [0x91, 0x80, 0, 0, 0];
+
 /// A value of `units` times 2^(exponent - 160), where `exponent` is an exponent byte. A
 /// re-stacked number has `units` from 2^31 to 2^32 - 1 with its sign, or is all zero.
 #[derive(Clone, Copy, Debug, PartialEq, Eq)]

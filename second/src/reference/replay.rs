@@ -1,7 +1,7 @@
 //! Document 02, A5, "Replay of a recorded count": a recording as values, each record held to the
 //! one that this machine makes of the same step.
 
-use super::{beyond_limits, operate, push, slot, DONE, LIMITS};
+use super::{beyond_limits, slot, step, Edition, DONE, LIMITS};
 use crate::{Bytes, Field, ReplayOutcome, Step, ZERO};
 
 /// The number that refuses what is no recording.
@@ -22,21 +22,18 @@ pub struct Record {
 }
 
 impl Record {
-    /// Does a step, and records it.
-    pub fn of(step: Step, stack: &mut [u8], depth: usize) -> Record {
-        let after = match step {
-            Step::Push(number) => push(stack, depth, &number),
-            Step::Literal(literal) => operate(stack, depth, literal),
-        };
+    /// Does a step, and records it. A recording is of the shipped edition.
+    pub fn of(given: Step, stack: &mut [u8], depth: usize) -> Record {
+        let after = step(Edition::Shipped, given, stack, depth);
         let top = match after.depth {
             0 => ZERO,
             _ => slot(stack, after.depth - 1),
         };
         Record {
-            step,
+            step: given,
             report: after.report,
             depth: after.depth,
-            top: matches!(step, Step::Literal(_)).then_some(top),
+            top: matches!(given, Step::Literal(_)).then_some(top),
         }
     }
 

@@ -4,6 +4,7 @@ use super::listing_addition::ADDITION;
 use super::listing_division::DIVISION;
 use super::listing_truncation::TRUNCATION;
 use super::z80::{Register, Z80};
+use crate::reference::Edition;
 use crate::Bytes;
 
 /// System variables of the Spectrum.
@@ -29,18 +30,27 @@ const AFTER: u16 = PROGRAM + 3;
 /// More instructions than any literal here takes.
 const PATIENCE: u32 = 100_000;
 
-/// What the ROM leaves, or that it says "Number too big".
+/// What the ROM leaves, or that it says "Number too big". It never says that an operand is
+/// malformed: the papers do.
 #[derive(Clone, Copy, Debug, PartialEq, Eq)]
 pub enum Left {
     Number(Bytes),
     TooBig,
+    Malformed,
 }
 
 pub struct Machine(Z80);
 
-/// An image with the listings' addition and truncation in place of its own. It is an error
-/// where the image is not the one that the rest of this was written for.
-pub fn patched(mut image: Vec<u8>) -> Result<Vec<u8>, String> {
+/// The second byte of the jump to a 34th round, and what listing 001's note has there: the round
+/// starts with a doubling.
+const JUMP_TO_34TH: usize = 12_800;
+const DOUBLING_FIRST: u8 = 218;
+
+/// The image as an edition. The shipped one has the listings' addition and truncation in place of
+/// the image's own, which are mended; the mended one has listing 001's remedy in its division,
+/// which the image has as it was shipped. It is an error where the image is not the one that the
+/// rest of this was written for.
+pub fn of_edition(edition: Edition, mut image: Vec<u8>) -> Result<Vec<u8>, String> {
     if image.len() != 0x4000 {
         return Err(format!("{} bytes and not 16384", image.len()));
     }
@@ -50,9 +60,14 @@ pub fn patched(mut image: Vec<u8>) -> Result<Vec<u8>, String> {
             return Err(format!("division is not listing 001's at {at:04X}"));
         }
     }
-    for &(at, bytes) in ADDITION.iter().chain(TRUNCATION) {
-        let at = usize::from(at);
-        image[at..at + bytes.len()].copy_from_slice(bytes);
+    match edition {
+        Edition::Shipped => {
+            for &(at, bytes) in ADDITION.iter().chain(TRUNCATION) {
+                let at = usize::from(at);
+                image[at..at + bytes.len()].copy_from_slice(bytes);
+            }
+        }
+        Edition::Mended => image[JUMP_TO_34TH] = DOUBLING_FIRST,
     }
     Ok(image)
 }

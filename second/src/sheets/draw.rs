@@ -1,17 +1,18 @@
 //! Sheets drawn at random: mostly lines that can be read, and in some of the sheets a slip.
 
-use crate::draw;
-use crate::reference::literals::NAMES;
+use crate::draw::{self, minus_65536};
+use crate::reference::literals::{ADD, NAMES, SUBTRACT};
 use crate::rng::Rng;
 use crate::sheet::LONGEST;
+use crate::text::spaced;
 
 const BYTE_ORDER_MARK: &[u8] = b"\xEF\xBB\xBF";
 
 /// Bytes that a slip puts where they do not belong.
 const STRAY: &[u8] = b"\0\x01\x07\x08\x0B\x0C\x1B\x7F\x80\xA0\xBB\xBF\xEF\xFF\r\n\t -+#O0.,:";
 
-/// One in so many has a slip.
-pub fn sheet(rng: &mut Rng, slips: u64) -> Vec<u8> {
+/// One in so many has a slip, and about half name an edition, one of these.
+pub fn sheet(rng: &mut Rng, slips: u64, editions: &[&str]) -> Vec<u8> {
     let lines = 1 + rng.below(40);
     let slip = rng.one_in(slips).then(|| rng.below(lines));
     let ends = rng.pick(&[
@@ -21,6 +22,7 @@ pub fn sheet(rng: &mut Rng, slips: u64) -> Vec<u8> {
         &["\r"],
         &["\n", "\r\n", "\r", "\n\n", "\r\r\n"],
     ]);
+    let names_editions = rng.one_in(2);
     let mut sheet = Vec::new();
     if rng.one_in(6) {
         sheet.extend(BYTE_ORDER_MARK);
@@ -28,8 +30,14 @@ pub fn sheet(rng: &mut Rng, slips: u64) -> Vec<u8> {
     for i in 0..lines {
         if slip == Some(i) {
             sheet.extend(wrong(rng));
+        } else if names_editions && rng.one_in(5) {
+            let named = edition(rng, editions);
+            sheet.extend(right(rng, named));
+        } else if rng.one_in(12) {
+            sheet.extend(decided(rng));
         } else {
-            sheet.extend(right(rng));
+            let step = step(rng);
+            sheet.extend(right(rng, step));
         }
         if i + 1 < lines || !rng.one_in(3) {
             sheet.extend(rng.pick(ends).as_bytes());
@@ -38,14 +46,14 @@ pub fn sheet(rng: &mut Rng, slips: u64) -> Vec<u8> {
     sheet
 }
 
-/// A line that can be read.
-fn right(rng: &mut Rng) -> Vec<u8> {
+/// A line that can be read, with this in it or nothing.
+fn right(rng: &mut Rng, said: Vec<u8>) -> Vec<u8> {
     let mut line = Vec::new();
     if rng.one_in(8) {
         line.extend(blanks(rng));
     }
     if !rng.one_in(10) {
-        line.extend(step(rng));
+        line.extend(said);
     }
     if rng.one_in(6) {
         line.extend(blanks(rng));
@@ -57,6 +65,32 @@ fn right(rng: &mut Rng) -> Vec<u8> {
         line.extend(comment(rng));
     }
     line
+}
+
+fn edition(rng: &mut Rng, editions: &[&str]) -> Vec<u8> {
+    let mut line = b"edition".to_vec();
+    line.extend(blank(rng));
+    line.extend(rng.pick(editions).bytes());
+    line
+}
+
+/// Lines whose last goes by the edition.
+fn decided(rng: &mut Rng) -> Vec<u8> {
+    let words = match rng.below(4) {
+        0 => format!("push {}\npush {}\ndivide", rng.below(9), 1 + rng.below(99)),
+        1 => {
+            let literal = rng.pick(&["add", "subtract"]);
+            let code = if literal == "add" { ADD } else { SUBTRACT };
+            let [first, second] = minus_65536::pair(rng, code).map(|b| spaced(&b));
+            format!("{first}\n{second}\n{literal}")
+        }
+        2 => {
+            let whole = spaced(&minus_65536::whole(rng));
+            format!("{whole}\n{}", rng.pick(&["int", "truncate"]))
+        }
+        _ => format!("00 FF 00 00 {:02X}\n{}", rng.byte(), rng.pick(&NAMES)),
+    };
+    words.into_bytes()
 }
 
 fn blanks(rng: &mut Rng) -> Vec<u8> {
@@ -149,7 +183,23 @@ fn named(rng: &mut Rng, word: &[u8], sign: &str, n: u64) -> Vec<u8> {
 
 /// What people and programs write instead. Most of these lines can't be read.
 fn wrong(rng: &mut Rng) -> Vec<u8> {
-    const LINES: [&str; 50] = [
+    const LINES: [&str; 66] = [
+        "edition",
+        "edition ",
+        "edition # mended",
+        "edition mended",
+        "edition 0",
+        "edition 1",
+        "edition new",
+        "edition Mended",
+        "edition SHIPPED",
+        "edition mende",
+        "edition shipped.",
+        "edition mended shipped",
+        "edition a b c d",
+        "Edition mended",
+        "editionmended",
+        "mended",
         "0",
         "2",
         "5",
@@ -201,7 +251,7 @@ fn wrong(rng: &mut Rng) -> Vec<u8> {
         "restack",
         "re stack",
     ];
-    match rng.below(14) {
+    match rng.below(16) {
         0..=3 => rng.pick(&LINES).into(),
         4 => number(rng)
             .into_iter()
@@ -240,8 +290,13 @@ fn wrong(rng: &mut Rng) -> Vec<u8> {
             line.extend(comment(rng));
             line
         }
-        11 => (0..1 + rng.below(20)).map(|_| rng.byte()).collect(),
-        _ => changed(rng),
+        11 => changed(rng, b"edition mended".to_vec()),
+        12 => changed(rng, b"edition shipped".to_vec()),
+        13 => (0..1 + rng.below(20)).map(|_| rng.byte()).collect(),
+        _ => {
+            let line = step(rng);
+            changed(rng, line)
+        }
     }
 }
 
@@ -257,9 +312,8 @@ fn without_blanks(rng: &mut Rng) -> Vec<u8> {
     [&line[..first], &line[first + digits.unwrap_or(0)..]].concat()
 }
 
-/// A step with a byte changed, put in or left out.
-fn changed(rng: &mut Rng) -> Vec<u8> {
-    let mut line = step(rng);
+/// A line with a byte changed, put in or left out.
+fn changed(rng: &mut Rng, mut line: Vec<u8>) -> Vec<u8> {
     let at = rng.below(line.len() as u64) as usize;
     match rng.below(3) {
         0 => line[at] = rng.pick(STRAY),

@@ -22,7 +22,7 @@ pub enum Found {
 /// differs can be had again.
 pub fn one(program: &str, seed: u64, number: u64) -> Result<Found> {
     let mut rng = Rng::new(seed ^ number.wrapping_mul(0xD134_2543_DE82_EF95));
-    let sheet = draw::sheet(&mut rng, 2);
+    let sheet = draw::sheet(&mut rng, 2, &["mended", "mended", "shipped"]);
     let expected = follow(&sheet);
     let found = run(program, &sheet)?;
     Ok(if agree(&expected, &found) {

@@ -49,7 +49,7 @@ pub fn near(rng: &mut Rng, bits: u32) -> [Bytes; 2] {
         pair.reverse();
     }
     let [first, second] = pair;
-    let difference = reference::addition::subtract(first, second);
+    let difference = reference::addition::subtract(reference::Edition::Shipped, first, second);
     assert_eq!(
         difference.map(|x| u32::from(x[0])),
         Some(u32::from(exponent) - bits)

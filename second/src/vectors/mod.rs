@@ -4,6 +4,7 @@ mod addition;
 mod cells;
 mod deep;
 mod division;
+mod editions;
 mod fifth_byte;
 mod lines;
 mod long;
@@ -31,8 +32,9 @@ pub struct Vectors {
 
 const HEADER: &str = "\
 # Cases for the calculator, made by second/vectors. A line is KIND and DEPTH, STACK, BYTES:
-# o operate, p push, r run, c the view and the cell with a report, y replay; bytes as LENGTH:HEX,
-# where zeros at the end may be left out, or as LENGTH:HEX*, repeated up to the length.
+# o operate, p push, r run, c the view and the cell with a report, y replay, O and R operate and run
+# in the edition of a number, which is the first of the bytes; bytes as LENGTH:HEX, where zeros at
+# the end may be left out, or as LENGTH:HEX*, repeated up to the length.
 ";
 
 impl Vectors {
@@ -63,6 +65,16 @@ impl Vectors {
         let (stack, depth) = self.among_neighbours(operands);
         self.case(Case {
             call: Call::Operate(literal),
+            depth,
+            stack,
+        })
+    }
+
+    /// The same in an edition, by its number.
+    fn operate_in(&mut self, edition: u8, literal: u8, operands: &[Bytes]) -> After {
+        let (stack, depth) = self.among_neighbours(operands);
+        self.case(Case {
+            call: Call::OperateIn(edition, literal),
             depth,
             stack,
         })
@@ -146,5 +158,6 @@ pub fn all() -> Vectors {
     long::cases(&mut v);
     lines::cases(&mut v);
     replays::cases(&mut v);
+    editions::cases(&mut v);
     v
 }

@@ -9,11 +9,11 @@ use crate::{Bytes, ZERO};
 const ODD: Bytes = [0, 0xFF, 0, 0, 0];
 
 /// Operands, literal, and the result or the report.
-type Row = (&'static [Bytes], u8, Result<Bytes, u8>);
+pub(super) type Row = (&'static [Bytes], u8, Result<Bytes, u8>);
 
 /// Document 01's table of sums, in its order.
 #[rustfmt::skip]
-const SUMS: [Row; 17] = [
+pub(super) const SUMS: [Row; 17] = [
     (&[[0x81, 0x00, 0, 0, 0], [0x84, 0x20, 0, 0, 0]], DIVIDE, Ok([0x7D, 0x4C, 0xCC, 0xCC, 0xCC])),
     (&[[0x82, 0x00, 0, 0, 0], [0x82, 0x40, 0, 0, 0]], DIVIDE, Ok([0x80, 0x2A, 0xAA, 0xAA, 0xAA])),
     (&[[0x84, 0x70, 0, 0, 0], [0x84, 0x50, 0, 0, 0]], DIVIDE, Ok([0x81, 0x13, 0xB1, 0x3B, 0x14])),
@@ -35,7 +35,7 @@ const SUMS: [Row; 17] = [
 
 /// Document 02, A1: 256 times 255, and 256 times 256, which is not short any more.
 #[rustfmt::skip]
-const PRODUCTS: [Row; 2] = [
+pub(super) const PRODUCTS: [Row; 2] = [
     (&[[0, 0, 0, 1, 0], [0, 0, 0xFF, 0, 0]], MULTIPLY, Ok([0, 0, 0, 0xFF, 0])),
     (&[[0, 0, 0, 1, 0], [0, 0, 0, 1, 0]], MULTIPLY, Ok([0x91, 0, 0, 0, 0])),
 ];
@@ -43,7 +43,7 @@ const PRODUCTS: [Row; 2] = [
 /// What the listings say in words: 1/10 and 1/1000 are not rounded up (001), I(2.4) is 2
 /// and I(-2.4) is -2, INT (-65536) returns -1 (002), -65000 and -536 give odd (003).
 #[rustfmt::skip]
-const LISTINGS: [Row; 9] = [
+pub(super) const LISTINGS: [Row; 9] = [
     (&[[0, 0, 1, 0, 0], [0, 0, 10, 0, 0]], DIVIDE, Ok([0x7D, 0x4C, 0xCC, 0xCC, 0xCC])),
     (&[[0, 0, 1, 0, 0], [0, 0, 0xE8, 0x03, 0]], DIVIDE, Ok([0x77, 0x03, 0x12, 0x6E, 0x97])),
     (&[[0x82, 0x19, 0x99, 0x99, 0x9A]], TRUNCATE, Ok([0, 0, 2, 0, 0])),
