@@ -8,6 +8,13 @@ extern "C" {
         depth: *mut usize,
         literal: u8,
     ) -> u8;
+    pub fn trenailer_operate_in(
+        edition: u8,
+        stack: *mut u8,
+        stack_len: usize,
+        depth: *mut usize,
+        literal: u8,
+    ) -> u8;
     pub fn trenailer_push(
         stack: *mut u8,
         stack_len: usize,
@@ -16,6 +23,15 @@ extern "C" {
         number_len: usize,
     ) -> u8;
     pub fn trenailer_run(
+        stack: *mut u8,
+        stack_len: usize,
+        depth: *mut usize,
+        literals: *const u8,
+        literals_len: usize,
+        position: *mut usize,
+    ) -> u8;
+    pub fn trenailer_run_in(
+        edition: u8,
         stack: *mut u8,
         stack_len: usize,
         depth: *mut usize,
