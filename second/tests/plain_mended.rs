@@ -354,8 +354,8 @@ fn short_numbers_at_the_edges() {
 fn every_second_byte_on_either_side() {
     for a in 0..=255 {
         for b in 0..=255 {
-            for low in [[0, 0], [1, 2], [0, 1], [1, 0]] {
-                let pair = [[0, a, low[0], low[1], 3], [0, b, 0, 0, 4]].concat();
+            for (high, b5) in [(0, 0), (0, 4), (1, 0), (1, 4)] {
+                let pair = [[0, a, 0, high, b5], [0, b, 0, 0, b5]].concat();
                 for literal in READING {
                     held(&pair, 2, literal);
                     held(&pair, 1, literal);
