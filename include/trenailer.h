@@ -7,7 +7,7 @@
  *                It is worth mantissa x 2^(b1 - 160).
  *     short      b1 is 0, b2 is 00 or FF, b3 low and b4 high: 256 b4 + b3, less 65,536 if b2 is FF. b5 means nothing: no report, depth
  *                or cell goes by it. A sum or difference that is stored short keeps the first number's b5, as in the ROM.
- *     odd        00 FF 00 00 and any b5, which the ROM makes by mistake. It is well formed.
+ *     odd        00 FF 00 00 and any b5, which the ROM makes by mistake. It is well formed, but for the mended edition (below).
  *     malformed  anything else: b1 is 0 and b2 is neither 00 nor FF.
  *
  * A stack is stack_len bytes, at most 16,000, and a depth: slot i is bytes 5i to 5i + 4, and the top is slot depth - 1. Bytes after the
@@ -26,8 +26,19 @@
  *     5        not one of the eleven literals
  *     6        number too big: a divisor that counts as zero, or an exponent byte above 255
  *     8        of a replay alone: what was given is not a recording
+ *     12       of trenailer_operate_in and trenailer_run_in alone: there is no such edition
  *
- * They are asked in the order 1, 5, 2, 4, 3, 6, and the first that holds is given; a replay asks for 1, then 8, and no more.
+ * They are asked in the order 12, 1, 5, 2, 4, 3, 6, and the first that holds is given; a replay asks for 1, then 8, and no more.
+ *
+ * There are two editions of the ROM: the shipped one, and a mended one, which differs in this alone.
+ *
+ *     division    is always to the nearest, halves up: a tenth is 7D 4C CC CC CD there, and 7D 4C CC CC CC in the shipped edition.
+ *     a sum       of two short numbers that is -65,536 is written 91 80 00 00 00, all five bytes, and not odd; int's own sums too.
+ *     truncation  of a number whose b1 is 91 (hex) clears its lowest bits, as it does for 92, and never makes odd.
+ *     odd         as an operand of any literal but exchange, delete and duplicate is malformed: report 3.
+ *
+ * trenailer_operate_in and trenailer_run_in are told the edition. A call that names none is of the shipped edition, a replay too; a push,
+ * the view and the cell are the same in both.
  *
  * Pointers. Each pointer is lent for the call. It points to as many bytes as the length beside it says, or to one object, and is not
  * null, not even where the length is 0: pass the address of any object then. No two of a call's objects overlap. Nothing else reads or
@@ -55,7 +66,7 @@ extern "C" {
 #define TRENAILER_RECORD_SIZE 16      /* bytes of a record */
 #define TRENAILER_RECORDING_MAX 64000 /* bytes of a recording: 4,000 records */
 
-/* What trenailer_operate, trenailer_push, trenailer_run and trenailer_replay return: the reports of the table above. */
+/* What trenailer_operate, trenailer_push, trenailer_run, trenailer_replay and those in an edition return: the table above. */
 enum {
     TRENAILER_REPORT_DONE = 0,
     TRENAILER_REPORT_OVER_LIMITS = 1,
@@ -64,7 +75,14 @@ enum {
     TRENAILER_REPORT_NO_ROOM = 4,
     TRENAILER_REPORT_UNKNOWN_LITERAL = 5,
     TRENAILER_REPORT_TOO_BIG = 6,
-    TRENAILER_REPORT_NOT_A_RECORDING = 8
+    TRENAILER_REPORT_NOT_A_RECORDING = 8,
+    TRENAILER_REPORT_UNKNOWN_EDITION = 12
+};
+
+/* The editions. */
+enum {
+    TRENAILER_SHIPPED = 0,
+    TRENAILER_MENDED = 1
 };
 
 /*
@@ -88,6 +106,9 @@ enum {
 /* Does one literal. Returns the report; *depth is the depth after it, and where it is refused the depth before it. */
 uint8_t trenailer_operate(uint8_t *stack, size_t stack_len, size_t *depth, uint8_t literal);
 
+/* Does one literal in an edition: trenailer_operate where that is TRENAILER_SHIPPED. Report 12 where there is no such edition. */
+uint8_t trenailer_operate_in(uint8_t edition, uint8_t *stack, size_t stack_len, size_t *depth, uint8_t literal);
+
 /* Pushes a number, five bytes, into slot *depth. Returns the report; *depth rises by one where it is 0. */
 uint8_t trenailer_push(uint8_t *stack, size_t stack_len, size_t *depth, const uint8_t *number, size_t number_len);
 
@@ -96,6 +117,13 @@ uint8_t trenailer_push(uint8_t *stack, size_t stack_len, size_t *depth, const ui
  * and the stack are as those left them. Report 1 comes before any of them, even for an empty list, with *position 0.
  */
 uint8_t trenailer_run(uint8_t *stack, size_t stack_len, size_t *depth, const uint8_t *literals, size_t literals_len, size_t *position);
+
+/*
+ * Does literals in turn, all of them in one edition: trenailer_run where that is TRENAILER_SHIPPED. Report 12, with *position 0, where
+ * there is no such edition. A mended run on a stack that holds no odd number leaves none.
+ */
+uint8_t trenailer_run_in(uint8_t edition, uint8_t *stack, size_t stack_len, size_t *depth, const uint8_t *literals, size_t literals_len,
+                         size_t *position);
 
 /*
  * Where the top number lies. Returns 5, with *start the place of its first byte in the stack; or 0, with *start as it was, at depth 0

@@ -124,6 +124,7 @@ class Texts(unittest.TestCase):
         have = dict(re.findall(r"\bTRENAILER_(\w+) =? ?\"?([0-9.]+)\b", header))
         wanted = {literal.name: literal for literal in trenailer.Literal}
         wanted.update({"REPORT_" + report.name: report for report in trenailer.Report})
+        wanted.update({edition.name: edition for edition in trenailer.Edition})
         wanted.update({name: getattr(trenailer, name) for name in ("REFUSED", "BLANK", "ODD", "VALUE")})
         wanted.update({"FIELD_" + field.name: field for field in trenailer.Field})
         sizes = ("NUMBER_SIZE", "STACK_MAX", "DEPTH_MAX", "LITERALS_MAX", "RECORD_SIZE", "RECORDING_MAX")
@@ -158,6 +159,9 @@ class Calls(unittest.TestCase):
         for byte in (-1, 256):
             self.assertRaises(ValueError, trenailer.operate, stack, 0, byte)
             self.assertRaises(ValueError, trenailer.cell, byte, stack, 0)
+        for edition in (-1, 2, 12, 255, 256, "mended"):
+            self.assertRaises(ValueError, trenailer.operate, stack, 0, 2, edition=edition)
+            self.assertRaises(ValueError, trenailer.run, stack, 0, b"", edition=edition)
         self.assertRaises(TypeError, trenailer.push, stack, 0, 5)
         self.assertRaises(TypeError, trenailer.replay, stack, 16)
         self.assertRaises(TypeError, trenailer.replay, bytes(10), b"")
@@ -180,6 +184,32 @@ class Calls(unittest.TestCase):
         self.assertEqual((stack.depth, stack.bytes.hex()), (2, "82400000008240000000"))
         self.assertEqual(stack.cell(), trenailer.Cell(trenailer.REFUSED, 4))
         self.assertEqual(stack.cell(trenailer.Report.DONE), trenailer.Cell(trenailer.VALUE, None, 3.0))
+
+    def test_editions(self):
+        tenth, below = bytes.fromhex("8100000000 8420000000"), bytes.fromhex("00ff180200 00ffe8fd00")
+        for edition in (None, trenailer.Edition.SHIPPED, trenailer.Edition.MENDED):
+            quotient, total = ("7d4ccccccd", "9180000000") if edition == trenailer.Edition.MENDED else ("7d4ccccccc", "00ff000000")
+            for literal, operands, result in ((5, tenth, quotient), (15, below, total)):
+                stack = bytearray(operands)
+                self.assertEqual(trenailer.operate(stack, 2, literal, edition=edition), (trenailer.Report.DONE, 1))
+                self.assertEqual(stack, bytes.fromhex(result) + operands[5:])
+                stack = bytearray(operands)
+                self.assertEqual(trenailer.run(stack, 2, [literal, 61, 1], edition=edition), (trenailer.Report.TOO_FEW, 2, 1))
+                self.assertEqual(stack[:5].hex(), "0000000000" if result == "00ff000000" else result)
+
+    def test_an_odd_operand(self):
+        for literal in (3, 4, 15, 27, 39, 58, 61):
+            stack = bytearray.fromhex("0000010000 00ff00005a")
+            self.assertEqual(trenailer.operate(stack, 2, literal, edition=trenailer.Edition.MENDED), (trenailer.Report.MALFORMED, 2))
+            self.assertEqual(stack.hex(), "000001000000ff00005a")
+            self.assertEqual(trenailer.operate(stack, 2, literal)[0], trenailer.Report.DONE)
+        stack = trenailer.Stack(10)
+        self.assertEqual(stack.push(bytes.fromhex("00ff00005a")), trenailer.Report.DONE)
+        self.assertEqual(stack.run([49, 1, 2, 27], edition=trenailer.Edition.MENDED), (trenailer.Report.MALFORMED, 3))
+        self.assertEqual((stack.depth, stack.cell()), (1, trenailer.Cell(trenailer.REFUSED, 3)))
+        self.assertEqual(stack.cell(trenailer.Report.DONE), trenailer.Cell(trenailer.ODD))
+        self.assertEqual(stack.operate(27, edition=trenailer.Edition.SHIPPED), trenailer.Report.DONE)
+        self.assertEqual(stack.view().hex(), "0000000000")
 
     def test_a_replay(self):
         agreed = (ROOT / "examples/count.rec").read_bytes()

@@ -24,6 +24,14 @@ A replay does the steps again from depth 0 on, and finds the first record that d
     >>> stack.cell().value
     -6.0
 
+A literal or a run is done as the shipped ROM does it, or as the mended edition does where that is named (include/trenailer.h has what
+differs). The last digit of a tenth is a C there and a D here:
+
+    >>> stack.push(whole(1)), stack.push(whole(10)), stack.operate(Literal.DIVIDE, edition=Edition.MENDED)
+    (0, 0, 0)
+    >>> stack.view().hex(" ")
+    '7d 4c cc cc cd'
+
 `operate`, `push`, `run`, `view`, `cell` and `replay` are the same on a bytearray and a depth of your own, as the C interface has them.
 Every call takes any bytes, any depth and any literal. What it can't do it refuses by a report (`Report`), and a refusal changes nothing.
 
@@ -75,6 +83,14 @@ class Report(IntEnum):
     UNKNOWN_LITERAL = 5
     TOO_BIG = 6
     NOT_A_RECORDING = 8
+    UNKNOWN_EDITION = 12
+
+
+class Edition(IntEnum):
+    """The editions of the ROM. Where none is named it is the shipped one."""
+
+    SHIPPED = 0
+    MENDED = 1
 
 
 # The kinds of a cell.
@@ -136,8 +152,10 @@ def _load() -> ctypes.PyDLL:
     library = ctypes.PyDLL(_path())
     for name, answer, arguments in (
         ("operate", byte, (bytes_, size, size_at, byte)),
+        ("operate_in", byte, (byte, bytes_, size, size_at, byte)),
         ("push", byte, (bytes_, size, size_at, bytes_, size)),
         ("run", byte, (bytes_, size, size_at, bytes_, size, size_at)),
+        ("run_in", byte, (byte, bytes_, size, size_at, bytes_, size, size_at)),
         ("view", size, (bytes_, size, size, size_at)),
         ("cell", byte, (byte, bytes_, size, size, byte_at, ctypes.POINTER(ctypes.c_double))),
         ("replay", byte, (bytes_, size, bytes_, size, size_at, byte_at, size_at)),
@@ -163,6 +181,12 @@ def _size(n: int) -> ctypes.c_size_t:
     return ctypes.c_size_t(n)
 
 
+def _edition(n: int) -> int:
+    if n not in (Edition.SHIPPED, Edition.MENDED):
+        raise ValueError(f"{n} is not an edition")
+    return n
+
+
 # A copy, so that nothing overlaps the stack. Of a number alone, bytes would make that many zeros.
 def _bytes(given: bytes) -> bytes:
     if isinstance(given, int):
@@ -174,10 +198,14 @@ def _lent(stack: bytearray) -> ctypes.Array:
     return (ctypes.c_uint8 * len(stack)).from_buffer(stack)
 
 
-def operate(stack: bytearray, depth: int, literal: int) -> Tuple[int, int]:
+def operate(stack: bytearray, depth: int, literal: int, *, edition: Optional[int] = None) -> Tuple[int, int]:
     """Does one literal on the stack, in place. Answers the report and the new depth, which is the old one where it is refused."""
     after = _size(depth)
-    report = _library.trenailer_operate(_lent(stack), len(stack), after, _byte(literal))
+    given = (_lent(stack), len(stack), after, _byte(literal))
+    if edition is None:
+        report = _library.trenailer_operate(*given)
+    else:
+        report = _library.trenailer_operate_in(_edition(edition), *given)
     return report, after.value
 
 
@@ -189,11 +217,15 @@ def push(stack: bytearray, depth: int, number: bytes) -> Tuple[int, int]:
     return report, after.value
 
 
-def run(stack: bytearray, depth: int, literals: bytes) -> Tuple[int, int, int]:
+def run(stack: bytearray, depth: int, literals: bytes, *, edition: Optional[int] = None) -> Tuple[int, int, int]:
     """Does literals in turn, up to the first that is refused. Answers its report, or 0, then how many were done, and the new depth."""
     after, position = _size(depth), ctypes.c_size_t()
     literals = _bytes(literals)
-    report = _library.trenailer_run(_lent(stack), len(stack), after, literals, len(literals), position)
+    given = (_lent(stack), len(stack), after, literals, len(literals), position)
+    if edition is None:
+        report = _library.trenailer_run(*given)
+    else:
+        report = _library.trenailer_run_in(_edition(edition), *given)
     return report, position.value, after.value
 
 
@@ -234,9 +266,9 @@ class Stack:
         self.depth = 0
         self.report: int = Report.DONE
 
-    def operate(self, literal: int) -> int:
+    def operate(self, literal: int, *, edition: Optional[int] = None) -> int:
         """Does one literal, and answers the report."""
-        self.report, self.depth = operate(self.bytes, self.depth, literal)
+        self.report, self.depth = operate(self.bytes, self.depth, literal, edition=edition)
         return self.report
 
     def push(self, number: bytes) -> int:
@@ -244,9 +276,9 @@ class Stack:
         self.report, self.depth = push(self.bytes, self.depth, number)
         return self.report
 
-    def run(self, literals: bytes) -> Tuple[int, int]:
+    def run(self, literals: bytes, *, edition: Optional[int] = None) -> Tuple[int, int]:
         """Does literals in turn up to the first that is refused, and answers the report and how many were done."""
-        self.report, position, self.depth = run(self.bytes, self.depth, literals)
+        self.report, position, self.depth = run(self.bytes, self.depth, literals, edition=edition)
         return self.report, position
 
     def replay(self, recording: bytes) -> Replayed:

@@ -8,6 +8,13 @@ extern "C" {
         depth: *mut usize,
         literal: u8,
     ) -> u8;
+    pub fn trenailer_operate_in(
+        edition: u8,
+        stack: *mut u8,
+        stack_len: usize,
+        depth: *mut usize,
+        literal: u8,
+    ) -> u8;
     pub fn trenailer_push(
         stack: *mut u8,
         stack_len: usize,
@@ -22,13 +29,6 @@ extern "C" {
         literals: *const u8,
         literals_len: usize,
         position: *mut usize,
-    ) -> u8;
-    pub fn trenailer_operate_in(
-        edition: u8,
-        stack: *mut u8,
-        stack_len: usize,
-        depth: *mut usize,
-        literal: u8,
     ) -> u8;
     pub fn trenailer_run_in(
         edition: u8,

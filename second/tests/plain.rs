@@ -2,6 +2,7 @@
 //! wrong program would be no measure.
 
 use second::draw::{self, EXPONENTS, WORDS};
+use second::plain::SHIPPED;
 use second::rng::Rng;
 use second::{plain, reference, Outcome, RunOutcome};
 
@@ -10,7 +11,7 @@ fn held_to_the_reference(stack: &[u8], depth: usize, literal: u8) {
     let (mut a, mut b) = (stack.to_vec(), stack.to_vec());
     let expected = reference::operate(&mut a, depth, literal);
     let mut after = depth;
-    let report = plain::operate(&mut b, &mut after, literal);
+    let report = plain::operate::<SHIPPED>(&mut b, &mut after, literal);
     let answer = Outcome {
         report,
         depth: after,
@@ -23,7 +24,7 @@ fn run_held_to_the_reference(stack: &[u8], depth: usize, list: &[u8]) {
     let (mut a, mut b) = (stack.to_vec(), stack.to_vec());
     let expected = reference::run(&mut a, depth, list);
     let (mut after, mut position) = (depth, usize::MAX);
-    let report = plain::run(&mut b, &mut after, list, &mut position);
+    let report = plain::run::<SHIPPED>(&mut b, &mut after, list, &mut position);
     let answer = RunOutcome {
         report,
         position,

@@ -1,6 +1,7 @@
 //! Plain optimised Rust for the same calls: what the speed of ours is measured against.
 //! Safe Rust with words, machine multiplication and division, shaped for the fewest
-//! instructions where that is also quick, and the same answers (tests/plain.rs).
+//! instructions where that is also quick, and the same answers (tests/plain.rs). What an edition
+//! reaches is made once for each, so that neither pays for the other.
 
 mod division;
 mod multiplication;
@@ -11,14 +12,19 @@ mod run;
 mod sum;
 mod whole;
 
-pub use operate::operate;
+pub use operate::{operate, operate_in};
 pub use replay::replay;
-pub use run::run;
+pub use run::{run, run_in};
 
 use crate::reference::{DONE, LIMITS, MALFORMED, NO_ROOM};
 use crate::Cell;
 use number::{word, Short, Slot};
 use std::hint::cold_path;
+
+/// The editions, as the C interface numbers them.
+pub const SHIPPED: u8 = 0;
+pub const MENDED: u8 = 1;
+pub const NO_SUCH_EDITION: u8 = 12;
 
 const LONGEST_STACK: usize = 16_000;
 const DEEPEST: usize = LONGEST_STACK / 5;

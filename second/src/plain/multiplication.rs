@@ -2,7 +2,10 @@
 //! branched to: selected, they take half as many instructions again, and three times the time
 //! where all are of one form. From there on it goes straight to the end.
 
-use super::number::{least, signed, store_value, store_word, word, Short, Slot, SIGN, ZERO};
+use super::number::{
+    is_operand, least, signed, store_value, store_word, word, Short, Slot, SIGN, ZERO,
+};
+use super::MENDED;
 use crate::reference::{DONE, MALFORMED, TOO_BIG};
 use std::hint::cold_path;
 
@@ -11,7 +14,7 @@ use std::hint::cold_path;
 const OFF: i32 = 128 + 63;
 
 #[inline(always)]
-pub fn multiply(first: &mut Slot, second: &Slot) -> u8 {
+pub fn multiply<const EDITION: u8>(first: &mut Slot, second: &Slot) -> u8 {
     if first[0] != 0 {
         let a = word(first);
         if second[0] != 0 {
@@ -20,26 +23,33 @@ pub fn multiply(first: &mut Slot, second: &Slot) -> u8 {
         let Some(b) = Short::load(second) else {
             return MALFORMED;
         };
-        return short_by_full(first, b, first[0], a);
+        return short_by_full::<EDITION>(first, b, first[0], a);
     }
     let Some(a) = Short::load(first) else {
         return MALFORMED;
     };
     if second[0] != 0 {
-        return short_by_full(first, a, second[0], word(second));
+        return short_by_full::<EDITION>(first, a, second[0], word(second));
     }
     let Some(b) = Short::load(second) else {
         return MALFORMED;
     };
-    short_by_short(first, a, b)
+    short_by_short::<EDITION>(first, second, a, b)
 }
 
 /// The product has 32 digits at most: it is exact in either form.
 #[inline(always)]
-fn short_by_short(first: &mut Slot, a: Short, b: Short) -> u8 {
+fn short_by_short<const EDITION: u8>(first: &mut Slot, second: &Slot, a: Short, b: Short) -> u8 {
     let product = a.magnitude() * b.magnitude();
     let sign = (a.sign ^ b.sign) as i32;
     if product <= 0xFFFF {
+        // Odd counts as zero. It is looked for in the slots, so that nothing is kept for it.
+        if EDITION == MENDED && product == 0 {
+            cold_path();
+            if !is_operand(word(first)) || !is_operand(word(second)) {
+                return MALFORMED;
+            }
+        }
         store_value(first, (product as i32 ^ sign) - sign);
         return DONE;
     }
@@ -52,10 +62,13 @@ fn short_by_short(first: &mut Slot, a: Short, b: Short) -> u8 {
 /// The short number is not made normal first: it is as if its exponent byte were 160. Such a
 /// product is never too small.
 #[inline(always)]
-fn short_by_full(first: &mut Slot, short: Short, exponent: u8, full: u32) -> u8 {
+fn short_by_full<const EDITION: u8>(first: &mut Slot, short: Short, exponent: u8, full: u32) -> u8 {
     let product = u64::from(short.magnitude()) * u64::from(full | SIGN);
     if product == 0 {
         cold_path();
+        if short.zero_is_refused::<EDITION>() {
+            return MALFORMED;
+        }
         *first = ZERO;
         return DONE;
     }

@@ -7,25 +7,25 @@ use super::multiplication::multiply;
 use super::number::{negate, re_stack, Slot};
 use super::sum::{add, subtract};
 use super::whole::{int, truncate};
-use super::{before, beyond_limits, end, DEEPEST, LONGEST_STACK};
+use super::{before, beyond_limits, end, DEEPEST, LONGEST_STACK, MENDED, NO_SUCH_EDITION, SHIPPED};
 use crate::reference::{DONE, LIMITS, NO_ROOM, NO_SUCH_LITERAL, TOO_FEW};
 use std::hint::cold_path;
 use std::mem::swap;
 
 #[inline(always)]
-pub fn operate(stack: &mut [u8], depth: &mut usize, literal: u8) -> u8 {
+pub fn operate<const EDITION: u8>(stack: &mut [u8], depth: &mut usize, literal: u8) -> u8 {
     let len = stack.len();
     macro_rules! one {
         ($f:ident) => {
             if let Some(end) = end(len, *depth, 1, 0) {
-                return $f(before(stack, end));
+                return $f::<EDITION>(before(stack, end));
             }
         };
     }
     macro_rules! two {
         ($f:ident) => {
             if let Some(end) = end(len, *depth, 2, 0) {
-                return $f(before(stack, end), depth);
+                return $f::<EDITION>(before(stack, end), depth);
             }
         };
     }
@@ -66,6 +66,19 @@ pub fn operate(stack: &mut [u8], depth: &mut usize, literal: u8) -> u8 {
     refusal(*depth, len, literal)
 }
 
+/// By the edition's number.
+#[inline(always)]
+pub fn operate_in(edition: u8, stack: &mut [u8], depth: &mut usize, literal: u8) -> u8 {
+    if edition == MENDED {
+        return operate::<MENDED>(stack, depth, literal);
+    }
+    if edition != SHIPPED {
+        cold_path();
+        return NO_SUCH_EDITION;
+    }
+    operate::<SHIPPED>(stack, depth, literal)
+}
+
 #[inline(always)]
 fn slots(pair: &mut [u8; 10]) -> (&mut Slot, &mut Slot) {
     let (first, second) = pair.split_at_mut(5);
@@ -77,9 +90,9 @@ fn slots(pair: &mut [u8; 10]) -> (&mut Slot, &mut Slot) {
 macro_rules! out_of_line {
     ($name:ident, $f:ident) => {
         #[inline(never)]
-        fn $name(pair: &mut [u8; 10], depth: &mut usize) -> u8 {
+        fn $name<const EDITION: u8>(pair: &mut [u8; 10], depth: &mut usize) -> u8 {
             let (first, second) = slots(pair);
-            let report = $f(first, second);
+            let report = $f::<EDITION>(first, second);
             if report == DONE {
                 *depth -= 1;
             }

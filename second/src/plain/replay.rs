@@ -5,7 +5,7 @@
 
 use super::number::{bits, store_bits, Slot};
 use super::run::step;
-use super::LONGEST_STACK;
+use super::{LONGEST_STACK, SHIPPED};
 use crate::reference::replay::{LONGEST_RECORDING, NOT_A_RECORDING, RECORD};
 use crate::reference::{DONE, LIMITS, MALFORMED, NO_ROOM};
 use std::hint::cold_path;
@@ -50,7 +50,7 @@ pub fn replay(
                 continue;
             }
         } else {
-            (report, now) = step(slots, now, record[0]);
+            (report, now) = step::<SHIPPED>(slots, now, record[0]);
             if record[1] == report && told_depth(record) == now && is_top(slots, now, number) {
                 continue;
             }

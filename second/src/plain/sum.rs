@@ -3,18 +3,22 @@
 //! is selected and not branched to: branches take a tenth fewer instructions and twice the
 //! time.
 
-use super::number::{least, signed, store_sum, store_word, word, Short, Slot, SIGN, ZERO};
+use super::number::{
+    is_spread_operand, least, signed, spread, store_spread, store_sum, store_word, word, Short,
+    Slot, GAP, MINUS_65536, ODD, SIGN, ZERO,
+};
+use super::MENDED;
 use crate::reference::{DONE, MALFORMED, TOO_BIG};
 use std::hint::cold_path;
 
 #[inline(always)]
-pub fn add(first: &mut Slot, second: &Slot) -> u8 {
-    sum(first, second, false)
+pub fn add<const EDITION: u8>(first: &mut Slot, second: &Slot) -> u8 {
+    sum::<EDITION>(first, second, false)
 }
 
 #[inline(always)]
-pub fn subtract(first: &mut Slot, second: &Slot) -> u8 {
-    sum(first, second, true)
+pub fn subtract<const EDITION: u8>(first: &mut Slot, second: &Slot) -> u8 {
+    sum::<EDITION>(first, second, true)
 }
 
 /// A mantissa with its sign, and the exponent byte; both 0 for what counts as zero.
@@ -81,7 +85,10 @@ fn stored_short(first: &mut Slot, a: Short, b: Short, negated: bool) -> bool {
 }
 
 #[inline(always)]
-fn sum(first: &mut Slot, second: &Slot, negated: bool) -> u8 {
+fn sum<const EDITION: u8>(first: &mut Slot, second: &Slot, negated: bool) -> u8 {
+    if EDITION == MENDED {
+        return sum_mended(first, second, negated);
+    }
     let (a, b) = match (first[0], second[0]) {
         (0, 0) => {
             let Some((a, b)) = Short::load_two(first, second) else {
@@ -107,6 +114,70 @@ fn sum(first: &mut Slot, second: &Slot, negated: bool) -> u8 {
         }
         _ => (full(first, false), full(second, negated)),
     };
+    total(first, a, b)
+}
+
+/// `None` where the mended edition refuses it.
+#[inline(always)]
+fn short_mended(x: &Slot, negated: bool) -> Option<Term> {
+    let x = Short::load(x)?;
+    if x.normal().is_none() {
+        return (x.sign == 0).then(Term::default);
+    }
+    Some(short(x, negated))
+}
+
+/// One question for each short operand and one for their sum, since what is malformed, odd or too
+/// large is beyond one range.
+#[inline(always)]
+fn sum_mended(first: &mut Slot, second: &Slot, negated: bool) -> u8 {
+    let (a, b) = match (first[0], second[0]) {
+        (0, 0) => {
+            let (a, b) = (spread(first), spread(second));
+            if !is_spread_operand(a) || !is_spread_operand(b) {
+                cold_path();
+                return MALFORMED;
+            }
+            // The borrow goes through the gap, and so does the carry where it is filled.
+            let sum = if negated {
+                a.wrapping_sub(b)
+            } else {
+                a.wrapping_add(b).wrapping_add(GAP)
+            } & !GAP;
+            if is_spread_operand(sum) {
+                store_spread(first, sum);
+                return DONE;
+            }
+            cold_path();
+            if sum == spread(&ODD) {
+                *first = MINUS_65536;
+                return DONE;
+            }
+            (
+                short(Short::of_spread(a), false),
+                short(Short::of_spread(b), negated),
+            )
+        }
+        (0, _) => {
+            let Some(a) = short_mended(first, false) else {
+                return MALFORMED;
+            };
+            (a, full(second, negated))
+        }
+        (_, 0) => {
+            let Some(b) = short_mended(second, negated) else {
+                return MALFORMED;
+            };
+            (full(first, false), b)
+        }
+        _ => (full(first, false), full(second, negated)),
+    };
+    total(first, a, b)
+}
+
+/// The full route.
+#[inline(always)]
+fn total(first: &mut Slot, a: Term, b: Term) -> u8 {
     let (large, small) = if a.exponent >= b.exponent {
         (a, b)
     } else {

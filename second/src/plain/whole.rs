@@ -1,12 +1,18 @@
 //! Truncation and int: what is left of a full number without its part below one.
 
-use super::number::{bits, store_value, store_word, word, Short, Slot, ODD, SIGN, ZERO};
+use super::number::{
+    bits, is_operand, store_value, store_word, word, Short, Slot, MINUS_65536, ODD, SIGN, ZERO,
+};
+use super::MENDED;
 use crate::reference::{DONE, MALFORMED};
 use std::hint::cold_path;
 
 #[inline(always)]
-pub fn truncate(x: &mut Slot) -> u8 {
+pub fn truncate<const EDITION: u8>(x: &mut Slot) -> u8 {
     let (e, word) = (x[0], word(x));
+    if e == 0 && EDITION == MENDED {
+        return short_in_mended(word);
+    }
     if e == 0 {
         return match Short::load(x) {
             Some(_) => DONE,
@@ -27,7 +33,7 @@ pub fn truncate(x: &mut Slot) -> u8 {
         store_value(x, if word & SIGN != 0 { -whole } else { whole });
         return DONE;
     }
-    if is_65536_below_zero(e, word) {
+    if is_65536_below_zero::<EDITION>(e, word) {
         *x = ODD;
         return DONE;
     }
@@ -36,11 +42,14 @@ pub fn truncate(x: &mut Slot) -> u8 {
 }
 
 /// Down to the next whole number. Odd, given or made by truncating, is taken for zero on the
-/// way and becomes -1.
+/// way and becomes -1; the mended edition has none.
 #[inline(always)]
-pub fn int(x: &mut Slot) -> u8 {
+pub fn int<const EDITION: u8>(x: &mut Slot) -> u8 {
     const MINUS_ONE: Slot = [0x81, 0x80, 0, 0, 0];
     let (e, bits) = (x[0], bits(x));
+    if e == 0 && EDITION == MENDED {
+        return short_in_mended(bits.swap_bytes());
+    }
     if e == 0 {
         if !matches!(bits as u8, 0 | 0xFF) {
             cold_path();
@@ -66,11 +75,17 @@ pub fn int(x: &mut Slot) -> u8 {
     if e <= 144 {
         let mantissa = i64::from(word | SIGN);
         let mantissa = if sign != 0 { -mantissa } else { mantissa };
+        let down = (mantissa >> places) as i32;
+        if EDITION == MENDED && down == -65_536 {
+            cold_path();
+            *x = MINUS_65536;
+            return DONE;
+        }
         x[0] = 0;
-        store_value(x, (mantissa >> places) as i32);
+        store_value(x, down);
         return DONE;
     }
-    if is_65536_below_zero(e, word) {
+    if is_65536_below_zero::<EDITION>(e, word) {
         *x = MINUS_ONE;
         return DONE;
     }
@@ -87,10 +102,20 @@ pub fn int(x: &mut Slot) -> u8 {
     DONE
 }
 
-/// What truncation makes odd of.
+/// The mended edition's report of a number whose b1 is 0, which stays as it is.
 #[inline(always)]
-fn is_65536_below_zero(e: u8, word: u32) -> bool {
-    if e == 145 {
+fn short_in_mended(word: u32) -> u8 {
+    if !is_operand(word) {
+        cold_path();
+        return MALFORMED;
+    }
+    DONE
+}
+
+/// What truncation makes odd of; nothing in the mended edition.
+#[inline(always)]
+fn is_65536_below_zero<const EDITION: u8>(e: u8, word: u32) -> bool {
+    if EDITION != MENDED && e == 145 {
         cold_path();
         return word >> 15 == SIGN >> 15;
     }

@@ -1,31 +1,44 @@
 //! What is measured, a row each: operands drawn from a fixed seed, none of them refused but some
-//! of a replay.
+//! of a replay. The rows that name an edition have the operands of those that name none; the
+//! mended run has its own.
 
 use super::counted;
 use super::operands::{accepted, near, operand, Mix};
 use super::work::{Call, Stacks, Work};
+use crate::plain::{self, MENDED, SHIPPED};
 use crate::reference::{
     self,
     literals::{reads_numbers, ALL, DIVIDE, DUPLICATE, NAMES, NEGATE, SUBTRACT},
+    number::ODD,
 };
 use crate::rng::Rng;
+use crate::{Bytes, Outcome};
 
 /// The run's stack and its length.
 const RUN_SLOTS: usize = 64;
 const RUN_DEPTH: usize = 32;
 const RUN_LENGTH: usize = 10_000;
+/// What the name of a row begins with whose calls name the edition.
+const BY_NAME: &str = "shipped by name, ";
+const IN_MENDED: &str = "mended ";
 /// The deepest stack there is.
 const DEEPEST: usize = 3_200;
 
 pub fn all() -> Vec<Work> {
     let mut rng = Rng::new(48);
     let mut all = Vec::new();
+    let (mut by_name, mut mended) = (Vec::new(), Vec::new());
     for (literal, name) in ALL.into_iter().zip(NAMES) {
-        all.push(literal_row(&mut rng, literal, name, Mix::Any));
+        let mut rows = vec![literal_row(&mut rng, literal, name, Mix::Any)];
         if reads_numbers(literal) {
-            all.push(literal_row(&mut rng, literal, name, Mix::Short));
-            all.push(literal_row(&mut rng, literal, name, Mix::Full));
+            rows.push(literal_row(&mut rng, literal, name, Mix::Short));
+            rows.push(literal_row(&mut rng, literal, name, Mix::Full));
+            if literal == DIVIDE {
+                by_name.push(naming(SHIPPED, literal, &rows[0]));
+            }
+            mended.extend(rows.iter().map(|row| naming(MENDED, literal, row)));
         }
+        all.extend(rows);
         match literal {
             SUBTRACT => all.extend([8, 16, 24, 31].map(|bits| cancelling(&mut rng, bits))),
             DIVIDE => all.extend(divisions(&mut rng)),
@@ -43,8 +56,23 @@ pub fn all() -> Vec<Work> {
             stacks: stacks.clone(),
         });
     }
-    all.push(mixed_run(&mut rng));
+    let (literals, stacks) = mixed_run(&mut rng, operate_shipped);
+    let call = Call::RunIn(SHIPPED, literals.clone());
+    by_name.push(run_row(BY_NAME, call, stacks.clone()));
+    all.push(Work {
+        promised: true,
+        ..run_row("", Call::Run(literals), stacks)
+    });
     all.push(counted::replay(&mut rng));
+    let (literals, stacks) = mixed_run(&mut rng, operate_mended);
+    mended.push(run_row(IN_MENDED, Call::RunIn(MENDED, literals), stacks));
+    for work in &mended {
+        let slots = work.stacks.bytes.as_chunks().0;
+        let is_odd = |slot: &Bytes| slot[..4] == ODD[..4];
+        assert!(!slots.iter().any(is_odd), "{}: an odd operand", work.name);
+    }
+    all.extend(by_name);
+    all.extend(mended);
     all
 }
 
@@ -64,6 +92,20 @@ fn literal_row(rng: &mut Rng, literal: u8, name: &str, mix: Mix) -> Work {
         promised: true,
         call: Call::Operate(literal),
         stacks: stacks(rng, literal, mix),
+    }
+}
+
+/// A literal's row again, by a call that names its edition.
+fn naming(edition: u8, literal: u8, row: &Work) -> Work {
+    let words = match edition {
+        SHIPPED => BY_NAME,
+        _ => IN_MENDED,
+    };
+    Work {
+        name: format!("{words}{}", row.name),
+        promised: false,
+        call: Call::OperateIn(edition, literal),
+        stacks: row.stacks.clone(),
     }
 }
 
@@ -95,8 +137,22 @@ fn divisions(rng: &mut Rng) -> [Work; 2] {
     })
 }
 
-/// A run of mixed literals of which none is refused.
-fn mixed_run(rng: &mut Rng) -> Work {
+fn operate_shipped(stack: &mut [u8], depth: usize, literal: u8) -> Outcome {
+    reference::operate(stack, depth, literal)
+}
+
+fn operate_mended(stack: &mut [u8], depth: usize, literal: u8) -> Outcome {
+    let mut after = depth;
+    let report = plain::operate::<MENDED>(stack, &mut after, literal);
+    Outcome {
+        report,
+        depth: after,
+    }
+}
+
+/// A run of mixed literals, of which none is refused by the edition whose literals these are, and
+/// its stack.
+fn mixed_run(rng: &mut Rng, operate: fn(&mut [u8], usize, u8) -> Outcome) -> (Vec<u8>, Stacks) {
     let slots = (0..RUN_SLOTS).flat_map(|_| operand(rng, Mix::Any));
     let bytes: Vec<u8> = slots.collect();
     let mut stack = bytes.clone();
@@ -109,21 +165,26 @@ fn mixed_run(rng: &mut Rng) -> Work {
         } else {
             rng.pick(&ALL)
         };
-        let outcome = reference::operate(&mut stack, depth, literal);
+        let outcome = operate(&mut stack, depth, literal);
         if outcome.report == reference::DONE {
             depth = outcome.depth;
             literals.push(literal);
         }
     }
+    let stacks = Stacks {
+        len: bytes.len(),
+        step: bytes.len(),
+        bytes,
+        depth: RUN_DEPTH,
+    };
+    (literals, stacks)
+}
+
+fn run_row(words: &str, call: Call, stacks: Stacks) -> Work {
     Work {
-        name: "run of 10,000 mixed literals, a literal".to_string(),
-        promised: true,
-        call: Call::Run(literals),
-        stacks: Stacks {
-            len: bytes.len(),
-            step: bytes.len(),
-            bytes,
-            depth: RUN_DEPTH,
-        },
+        name: format!("{words}run of 10,000 mixed literals, a literal"),
+        promised: false,
+        call,
+        stacks,
     }
 }

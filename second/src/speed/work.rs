@@ -6,12 +6,16 @@ use std::hint::black_box;
 
 pub enum Call {
     Operate(u8),
+    /// In the edition of that number.
+    OperateIn(u8, u8),
     /// Five bytes for each stack, in memory of their own.
     Push(Vec<u8>),
     View,
     Cell,
     /// These literals in one call.
     Run(Vec<u8>),
+    /// In the edition of that number.
+    RunIn(u8, Vec<u8>),
     /// This recording in one call.
     Replay(Vec<u8>),
 }
@@ -54,7 +58,7 @@ impl Stacks {
 impl Work {
     pub fn operations(&self) -> usize {
         match &self.call {
-            Call::Run(literals) => literals.len(),
+            Call::Run(literals) | Call::RunIn(_, literals) => literals.len(),
             Call::Replay(recording) => recording.len() / RECORD,
             _ => self.stacks.count(),
         }
@@ -87,6 +91,13 @@ impl Work {
                         answers += usize::from((calls.operate)(at, len, depth, *literal));
                     }
                 }
+                Call::OperateIn(edition, literal) => {
+                    for (i, depth) in area.depths.iter_mut().enumerate() {
+                        let at = stacks.add(i * step);
+                        let report = (calls.operate_in)(*edition, at, len, depth, *literal);
+                        answers += usize::from(report);
+                    }
+                }
                 Call::Push(numbers) => {
                     for (i, depth) in area.depths.iter_mut().enumerate() {
                         let (at, number) = (stacks.add(i * step), numbers.as_ptr().add(5 * i));
@@ -111,6 +122,13 @@ impl Work {
                     let (list, count) = (literals.as_ptr(), literals.len());
                     let (depth, position) = (&mut area.depths[0], &mut area.start);
                     let report = (calls.run)(stacks, len, depth, list, count, position);
+                    answers += usize::from(report);
+                }
+                Call::RunIn(edition, literals) => {
+                    let (list, count) = (literals.as_ptr(), literals.len());
+                    let (depth, position) = (&mut area.depths[0], &mut area.start);
+                    let report =
+                        (calls.run_in)(*edition, stacks, len, depth, list, count, position);
                     answers += usize::from(report);
                 }
                 Call::Replay(recording) => {
