@@ -9,6 +9,7 @@ use lib.Seq.{drop-cons, drop-length}
 use borrow.Author.Tests.{lt-ltb, le-ltb, eq-eqb, ne-eqb}
 use Rattle.edition.specs.declared.Edition.{Edition}
 use Rattle.slots.specs.declared.outcome.Outcome.{Outcome}
+use Rattle.calculator.specs.declared.outcome.RunOutcome.{RunOutcome}
 use Rattle.slots.specs.Reports.{overLimits}
 use Rattle.literals.specs.Reports.{tooManyLiterals}
 use Rattle.literals.specs.Operate.{operateOf}
@@ -41,3 +42,7 @@ module _ (ed : Edition) (s : List ℕ) (d : ℕ) (ls : List ℕ) where
   pub run-starts : overLimits s d ≡ false → length ls ≤ 60000 → goOn ed ls 0 s d ≡ runOf ed s d ls
   unfolding runOf tooManyLiterals
   run-starts w h = simp (w, le-ltb _ _ h)
+
+-- an edition by another name
+pub run-named : (s : List ℕ) (d : ℕ) (ls : List ℕ) {v w : Edition} {x : RunOutcome × List ℕ} → v ≡ w → runOf w s d ls ≡ x → runOf v s d ls ≡ x
+run-named s d ls e h = rw e h

@@ -5,10 +5,14 @@ mod running;
 
 pub use display::Cell;
 pub use display::cell;
+pub use edition::Edition;
 pub use moving::push;
 pub use operation::operate;
+pub use operation::operate_in;
 pub use operation::operate_in_place;
+pub use operation::operate_in_place_in;
 pub use outcome::RunOutcome;
 pub use running::run;
+pub use running::run_in;
 pub use slots::Outcome;
 pub use slots::view;

@@ -1,7 +1,10 @@
 // A run: a list of literals, done in turn until one is refused.
+use crate::operation::operate_in_place_in;
 use crate::outcome::RunOutcome;
+use edition::Edition;
 use literals::table;
 ghost use mathlib.Core.Path.{_≡_};
+ghost use Rattle.edition.specs.Edition.{unnamed};
 ghost use Rattle.edition.specs.declared.Edition.the-variants.{Shipped};
 ghost use Rattle.literals.specs.Operate.{operateOf, outcome};
 ghost use Rattle.calculator.specs.Run.{runOf};
@@ -12,8 +15,24 @@ struct Stop {
     position: usize,
 }
 
-// Report 1 is checked once, even for an empty list.
 pub fn run(stack: &mut [u8], depth: usize, literals: &[u8]) -> RunOutcome
+    ensures { λ r. ⌜ runOf unnamed (now (stack .entry)) depth (now (literals .entry)) ≡ (r, now (stack .exit)) ⌝ }
+{
+    run_in(edition::unnamed(), stack, depth, literals)
+}
+
+// A loop of its own for each: whose literals they are is asked once, not of every one.
+pub fn run_in(edition: Edition, stack: &mut [u8], depth: usize, literals: &[u8]) -> RunOutcome
+    ensures { λ r. ⌜ runOf edition (now (stack .entry)) depth (now (literals .entry)) ≡ (r, now (stack .exit)) ⌝ }
+{
+    match edition {
+        Edition::Shipped => run_shipped(stack, depth, literals),
+        Edition::Mended => run_through(edition, stack, depth, literals),
+    }
+}
+
+// Report 1 is checked once, even for an empty list.
+fn run_shipped(stack: &mut [u8], depth: usize, literals: &[u8]) -> RunOutcome
     ensures { λ r. ⌜ runOf Shipped (now (stack .entry)) depth (now (literals .entry)) ≡ (r, now (stack .exit)) ⌝ }
 {
     if slots::over_limits(stack, depth) {
@@ -52,7 +71,46 @@ pub fn run(stack: &mut [u8], depth: usize, literals: &[u8]) -> RunOutcome
     }
 }
 
-// The table once more, for the run alone: the compiler then has each small literal inside the loop.
+fn run_through(edition: Edition, stack: &mut [u8], depth: usize, literals: &[u8]) -> RunOutcome
+    ensures { λ r. ⌜ runOf edition (now (stack .entry)) depth (now (literals .entry)) ≡ (r, now (stack .exit)) ⌝ }
+{
+    if slots::over_limits(stack, depth) {
+        return RunOutcome {
+            report: 1,
+            position: 0,
+            depth,
+        };
+    }
+    if 60000 < literals.len() {
+        return RunOutcome {
+            report: 1,
+            position: 0,
+            depth,
+        };
+    }
+    let mut current = depth;
+    let mut position = 0;
+    let stop = loop {
+        if position == literals.len() {
+            break Stop {
+                report: 0,
+                position,
+            };
+        }
+        let report = operate_in_place_in(edition, stack, &mut current, literals[position]);
+        if report != 0 {
+            break Stop { report, position };
+        }
+        position += 1;
+    };
+    RunOutcome {
+        report: stop.report,
+        position: stop.position,
+        depth: current,
+    }
+}
+
+// The table once more, for the shipped edition's run alone: the compiler then has each small literal inside the loop.
 fn step(stack: &mut [u8], depth: &mut usize, literal: u8) -> u8
     ensures { λ r. ⌜ operateOf Shipped (now (stack .entry)) (now (depth .entry)) literal ≡ (outcome r (now (depth .exit)), now (stack .exit)) ⌝ }
 {

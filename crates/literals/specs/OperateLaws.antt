@@ -30,6 +30,10 @@ module _ (ed : Edition) (s : List ℕ) (d l : ℕ) where
   unfolding operateOf
   operate-kept o s′ e h = settled-refused (reportOf ed s d l) d s _ _ o s′ e h
 
+-- an edition by another name
+pub operate-named : (s : List ℕ) (d l : ℕ) {v w : Edition} {x : Outcome × List ℕ} → v ≡ w → operateOf w s d l ≡ x → operateOf v s d l ≡ x
+operate-named s d l e h = rw e h
+
 -- a literal that is in no row
 module _ (l : ℕ) (a : l ≡ 1 → ⊥) (b : l ≡ 2 → ⊥) (c : l ≡ 3 → ⊥) (d : l ≡ 4 → ⊥) (e : l ≡ 5 → ⊥) (f : l ≡ 15 → ⊥) (g : l ≡ 27 → ⊥) (h : l ≡ 39 → ⊥)
     (i : l ≡ 49 → ⊥) (j : l ≡ 58 → ⊥) (k : l ≡ 61 → ⊥) where
