@@ -1,2 +1,4 @@
 pub mod Told
 pub mod ToldLaws
+pub mod Numbered
+pub mod NumberedLaws

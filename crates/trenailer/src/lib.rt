@@ -1,21 +1,47 @@
-// The calculator for programs in other languages: include/trenailer.h declares these six functions. A slice passes as a pointer and a
+// The calculator for programs in other languages: include/trenailer.h declares these eight functions. A slice passes as a pointer and a
 // length, and what a function answers beside its result goes out through a pointer.
 use calculator::Cell;
+use calculator::Edition;
 use replaying::Field;
 use replaying::Verdict;
 ghost use mathlib.Core.Path.{_≡_};
+ghost use Rattle.edition.specs.Edition.{unnamed};
 ghost use Rattle.slots.specs.Push.{pushOf};
 ghost use Rattle.display.specs.Cell.{cellOf};
 ghost use Rattle.literals.specs.Operate.{outcome, operateOf};
 ghost use Rattle.calculator.specs.Run.{runOf};
 ghost use Rattle.replaying.specs.Replay.{replayOf};
 ghost use Rattle.trenailer.specs.Told.{runOutcome, Part, toldOf, fieldNumber, replayTold};
+ghost use Rattle.trenailer.specs.Numbered.{operateNumbered, runNumbered};
+
+const SHIPPED: u8 = 0;
+
+const MENDED: u8 = 1;
+
+// Neither of them.
+const UNKNOWN_EDITION: u8 = 12;
 
 #[no_mangle]
 pub extern "C" fn trenailer_operate(stack: &mut [u8], depth: &mut usize, literal: u8) -> u8
-    ensures { λ r. ⌜ operateOf (now (stack .entry)) (now (depth .entry)) literal ≡ (outcome r (now (depth .exit)), now (stack .exit)) ⌝ }
+    ensures { λ r. ⌜ operateOf unnamed (now (stack .entry)) (now (depth .entry)) literal ≡ (outcome r (now (depth .exit)), now (stack .exit)) ⌝ }
 {
     calculator::operate_in_place(stack, depth, literal)
+}
+
+#[no_mangle]
+pub extern "C" fn trenailer_operate_in(
+    edition: u8,
+    stack: &mut [u8],
+    depth: &mut usize,
+    literal: u8,
+) -> u8
+    ensures { λ r. ⌜ operateNumbered edition (now (stack .entry)) (now (depth .entry)) literal ≡ (outcome r (now (depth .exit)), now (stack .exit)) ⌝ }
+{
+    match edition {
+        SHIPPED => calculator::operate_in_place_in(Edition::Shipped, stack, depth, literal),
+        MENDED => calculator::operate_in_place_in(Edition::Mended, stack, depth, literal),
+        _ => UNKNOWN_EDITION,
+    }
 }
 
 #[no_mangle]
@@ -34,13 +60,48 @@ pub extern "C" fn trenailer_run(
     literals: &[u8],
     position: &mut usize,
 ) -> u8
-    ensures { λ r. ⌜ runOf (now (stack .entry)) (now (depth .entry)) (now (literals .entry))
+    ensures { λ r. ⌜ runOf unnamed (now (stack .entry)) (now (depth .entry)) (now (literals .entry))
         ≡ (runOutcome r (now (position .exit)) (now (depth .exit)), now (stack .exit)) ⌝ }
 {
-    let done = calculator::run(stack, *depth, literals);
+    run_there(edition::unnamed(), stack, depth, literals, position)
+}
+
+// A run in an edition, with the depth and the position where they stand.
+fn run_there(
+    edition: Edition,
+    stack: &mut [u8],
+    depth: &mut usize,
+    literals: &[u8],
+    position: &mut usize,
+) -> u8
+    ensures { λ r. ⌜ runOf edition (now (stack .entry)) (now (depth .entry)) (now (literals .entry))
+        ≡ (runOutcome r (now (position .exit)) (now (depth .exit)), now (stack .exit)) ⌝ }
+{
+    let done = calculator::run_in(edition, stack, *depth, literals);
     *depth = done.depth;
     *position = done.position;
     done.report
+}
+
+#[no_mangle]
+pub extern "C" fn trenailer_run_in(
+    edition: u8,
+    stack: &mut [u8],
+    depth: &mut usize,
+    literals: &[u8],
+    position: &mut usize,
+) -> u8
+    ensures { λ r. ⌜ runNumbered edition (now (stack .entry)) (now (depth .entry)) (now (literals .entry))
+        ≡ (runOutcome r (now (position .exit)) (now (depth .exit)), now (stack .exit)) ⌝ }
+{
+    match edition {
+        SHIPPED => run_there(Edition::Shipped, stack, depth, literals, position),
+        MENDED => run_there(Edition::Mended, stack, depth, literals, position),
+        _ => {
+            *position = 0;
+            UNKNOWN_EDITION
+        }
+    }
 }
 
 // The view is handed over as its place in the stack.
