@@ -22,7 +22,7 @@ LAUNCHER = str(ROOT / "trenailer")
 # 1,000 votes by 4, with the letter O for a zero.
 SLIP = b"push 1000   # votes\n00 00 O4 00 00\ndivide\nint\n"
 STOPPED = b"0 1 00 00 E8 03 00\n? line 2\n"
-WHY = (b"calc: line 2: 00 00 O4 00 00: a step is five bytes in hex as 00 00 04 00 00, push N, literal N, or a literal's name;"
+WHY = (b"calc: line 2: 00 00 O4 00 00: a line is five bytes in hex as 00 00 04 00 00, push N, literal N, a literal's name, or edition NAME;"
        b" nothing from this line on was done\n")
 
 
@@ -120,7 +120,7 @@ class Recordings(unittest.TestCase):
         self.assertEqual(shell('"$T" replay', b""), (0, b"agree 0\n", b""))
 
     def test_lines_that_are_not_recorded(self):
-        for sheet, said in ((SLIP, b"record: line 2: 00 00 O4 00 00: a step is five bytes in hex"), (b"push 1\n\nliteral 0 # none\n", b"record: line 3: literal 0: "),
+        for sheet, said in ((SLIP, b"record: line 2: 00 00 O4 00 00: a line is five bytes in hex"), (b"push 1\n\nliteral 0 # none\n", b"record: line 3: literal 0: "),
                             (b"push 1\ndelete\n" * 2_000 + b"# that was all\nadd\n", b"record: line 4002: add: a recording holds 4000 records")):
             status, out, err = self.record(sheet)
             self.assertEqual((status, out, err.count(b"\n")), (1, b"", 1), err)

@@ -1,11 +1,13 @@
 // Reading the sheet and writing the answers. Input comes in parts of any size; what is kept between them is the line so far.
+use edition::Edition;
 use libc::STDERR_FILENO;
 use libc::STDIN_FILENO;
 use libc::STDOUT_FILENO;
 ghost use Prim.Native.Nat.{_<_};
 
-// Where the program stands: the stack's depth, how many bytes of the line are held, and the line's number.
+// Where the program stands: the edition that the sheet has named, the stack's depth, how many bytes of the line are held, and the line's number.
 struct Place {
+    edition: Edition,
     depth: usize,
     held: usize,
     number: u64,
@@ -44,6 +46,7 @@ fn end_line(stack: &mut [u8], line: &[u8], at: Place, terminal: bool, returned: 
     let mut out = [0u8; 64];
     let mut err = [0u8; 256];
     let done = reply::answer_line(
+        at.edition,
         stack,
         at.depth,
         at.going,
@@ -56,6 +59,7 @@ fn end_line(stack: &mut [u8], line: &[u8], at: Place, terminal: bool, returned: 
     let written = write(text::first(&out, done.out));
     io::write_all(STDERR_FILENO, text::first(&err, done.err));
     Place {
+        edition: done.edition,
         depth: done.depth,
         held: 0,
         number: next_number(at.number, done.err),
@@ -79,6 +83,7 @@ fn take_byte(stack: &mut [u8], line: &mut [u8], at: Place, terminal: bool, byte:
         return end_line(stack, line, at, terminal, taken.returned);
     }
     Place {
+        edition: at.edition,
         depth: at.depth,
         held: taken.held,
         number: at.number,
@@ -108,6 +113,7 @@ fn read_some(stack: &mut [u8], line: &mut [u8], at: Place, terminal: bool) -> Pl
     }
     if got <= 0 {
         return Place {
+            edition: at.edition,
             depth: at.depth,
             held: at.held,
             number: at.number,
@@ -153,6 +159,7 @@ fn turns_left(turns: u64, going: bool) -> u64
 pub fn follow(stack: &mut [u8], line: &mut [u8]) {
     let terminal = libc::isatty(STDIN_FILENO) == 1;
     let mut at = Place {
+        edition: edition::unnamed(),
         depth: 0,
         held: 0,
         number: 1,

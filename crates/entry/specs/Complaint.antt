@@ -7,11 +7,13 @@ use native.Mathlib.Omega.{arith}
 use lib.Dec.{eqb, ltb}
 use borrow.Author.Tests.{lt-ltb, le-ltb, ltb-false, eqb-false}
 use Rattle.text.specs.Ascii.{ascii}
+use Rattle.edition.specs.declared.Edition.{Edition}
+use Rattle.edition.specs.declared.Edition.the-variants.{Shipped, Mended}
 use Rattle.sheet.specs.declared.meaning.Line.{Line}
-use Rattle.sheet.specs.declared.meaning.Line.the-variants.{Nothing, Push, Literal, Unreadable}
+use Rattle.sheet.specs.declared.meaning.Line.the-variants.{Nothing, Push, Literal, Named, Unreadable}
 use Rattle.wording.specs.Wording.{faultOf, placeOf}
 use Rattle.entry.specs.declared.why.Why.{Why}
-use Rattle.entry.specs.declared.why.Why.the-variants.{None, Unread, Zero, Full}
+use Rattle.entry.specs.declared.why.Why.the-variants.{None, Unread, Mended as NotShipped, Zero, Full}
 
 -- a recording has at most 64,000 bytes, of which a record takes 16
 unfoldable pub whyFull : ℕ → Why
@@ -25,22 +27,30 @@ pub not-full : (end : ℕ) → end ≤ 63984 → None ≡ whyFull end
 unfolding whyFull
 not-full end h = simp (le-ltb 64000 (end + 16) (omega arith))
 
+-- recordings are of the shipped edition
+unfoldable pub whyEdition : Edition → Why
+whyEdition Shipped = None
+whyEdition Mended = NotShipped
+
 -- "byte 0 the literal (0 for push)": literal 0 has no record
 unfoldable pub whyNot : Line → ℕ → Why
 whyNot Nothing end = None
 whyNot (Push n) end = whyFull end
 whyNot (Literal l) end = cond (eqb l 0) Zero (whyFull end)
+whyNot (Named e) end = whyEdition e
 whyNot (Unreadable f) end = Unread f
 
 unfoldable pub isTaken : Why → Bool
 isTaken None = true
 isTaken (Unread f) = false
+isTaken NotShipped = false
 isTaken Zero = false
 isTaken Full = false
 
 unfoldable pub whyText : Why → List ℕ
 whyText None = []
 whyText (Unread f) = faultOf f
+whyText NotShipped = ascii "recordings are of the shipped edition"
 whyText Zero = ascii "a recording has 0 for a push, and can't hold literal 0"
 whyText Full = ascii "a recording holds 4000 records"
 

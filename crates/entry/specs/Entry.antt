@@ -14,7 +14,7 @@ use Rattle.slots.specs.Push.{pushOf}
 use Rattle.slots.specs.View.{viewOf}
 use Rattle.literals.specs.Operate.{operateOf}
 use Rattle.sheet.specs.declared.meaning.Line.{Line}
-use Rattle.sheet.specs.declared.meaning.Line.the-variants.{Nothing, Push, Literal, Unreadable}
+use Rattle.sheet.specs.declared.meaning.Line.the-variants.{Nothing, Push, Literal, Named, Unreadable}
 use Rattle.sheet.specs.Blanks.{toldOf, trimmed}
 use Rattle.sheet.specs.Line.{lineOf}
 use Rattle.recording.specs.Recording.{zeros}
@@ -40,6 +40,7 @@ unfoldable pub saidKept : List ℕ → ℕ → Text → Line → Kept
 saidKept s d t Nothing = (s, d, t)
 saidKept s d t (Push n) = stepKept s d t (push (bytesOf n))
 saidKept s d t (Literal l) = stepKept s d t (literal l)
+saidKept s d t (Named e) = (s, d, t)
 saidKept s d t (Unreadable f) = (s, d, t)
 
 -- by its parts

@@ -1,9 +1,10 @@
 // Why a line can't be taken, and what standard error has of it then.
 use crate::why::Why;
+use edition::Edition;
 use sheet::Line;
 ghost use mathlib.Core.Path.{_≡_};
 ghost use Rattle.text.specs.Put.{putsOf};
-ghost use Rattle.entry.specs.Complaint.{whyFull, whyNot, isTaken, whyText, complaintOf};
+ghost use Rattle.entry.specs.Complaint.{whyFull, whyEdition, whyNot, isTaken, whyText, complaintOf};
 
 // Whether 64,000 bytes have room for a record more.
 fn why_full(end: usize) -> Why
@@ -13,6 +14,16 @@ fn why_full(end: usize) -> Why
         return Why::Full;
     }
     Why::None
+}
+
+// Recordings are of the shipped edition.
+fn why_edition(edition: Edition) -> Why
+    ensures { λ r. ⌜ r ≡ whyEdition edition ⌝ }
+{
+    match edition {
+        Edition::Shipped => Why::None,
+        Edition::Mended => Why::Mended,
+    }
 }
 
 pub(crate) fn why_not(said: Line, end: usize) -> Why
@@ -27,6 +38,7 @@ pub(crate) fn why_not(said: Line, end: usize) -> Why
             }
             why_full(end)
         }
+        Line::Named(edition) => why_edition(edition),
         Line::Unreadable(fault) => Why::Unread(fault),
     }
 }
@@ -37,6 +49,7 @@ pub(crate) fn is_taken(why: Why) -> bool
     match why {
         Why::None => true,
         Why::Unread(_) => false,
+        Why::Mended => false,
         Why::Zero => false,
         Why::Full => false,
     }
@@ -48,6 +61,7 @@ fn put_why(out: &mut [u8], at: usize, why: Why) -> usize
     match why {
         Why::None => at,
         Why::Unread(fault) => wording::put_fault(out, at, fault),
+        Why::Mended => text::put_all(out, at, b"recordings are of the shipped edition"),
         Why::Zero => text::put_all(
             out,
             at,

@@ -1,4 +1,5 @@
 // A step, and its record.
+use edition::Edition;
 use sheet::Line;
 ghost use mathlib.Core.Path.{_≡_};
 ghost use Rattle.text.specs.Put.{putsOf};
@@ -70,7 +71,7 @@ pub(crate) fn record_step(
             }
         }
         Line::Literal(l) => {
-            let done = calculator::operate(stack, depth, l);
+            let done = calculator::operate_in(Edition::Shipped, stack, depth, l);
             let after = done.depth;
             Kept {
                 depth: after,
@@ -84,6 +85,7 @@ pub(crate) fn record_step(
                 ),
             }
         }
+        Line::Named(_) => Kept { depth, end },
         Line::Unreadable(_) => Kept { depth, end },
     }
 }

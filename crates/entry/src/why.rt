@@ -5,6 +5,8 @@ pub(crate) enum Why {
     // It can.
     None,
     Unread(Fault),
+    // Recordings are of the shipped edition.
+    Mended,
     // Literal 0: a record has 0 for a push.
     Zero,
     // A recording has at most 4,000 records.

@@ -8,7 +8,7 @@ use Rattle.text.specs.Digits.{decimalOf}
 use Rattle.slots.specs.declared.outcome.Outcome.{Outcome}
 use Rattle.slots.specs.View.{viewOf}
 use Rattle.sheet.specs.declared.meaning.Line.{Line}
-use Rattle.sheet.specs.declared.meaning.Line.the-variants.{Nothing, Push, Literal, Unreadable}
+use Rattle.sheet.specs.declared.meaning.Line.the-variants.{Nothing, Push, Literal, Named, Unreadable}
 use Rattle.sheet.specs.declared.meaning.Fault.{Fault}
 use Rattle.wording.specs.Wording.{stepAnswer, faultOf, placeOf}
 
@@ -20,6 +20,7 @@ unfoldable pub answerOf : ℕ → Line → ℕ → ℕ → List ℕ → List ℕ
 answerOf number Nothing report depth top = []
 answerOf number (Push n) report depth top = stepAnswer report depth top
 answerOf number (Literal l) report depth top = stepAnswer report depth top
+answerOf number (Named e) report depth top = []
 answerOf number (Unreadable f) report depth top = unreadableAnswer number
 
 abbrev pub writtenOf : ℕ → Line → Outcome × List ℕ → List ℕ

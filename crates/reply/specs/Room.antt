@@ -8,12 +8,13 @@ use lib.ListN.{length, length-append}
 use Rattle.text.specs.Ascii.{ascii}
 use Rattle.text.specs.Put.{before, puts-whole}
 use Rattle.text.specs.Digits.{decimalOf, digits-length}
+use Rattle.edition.specs.declared.Edition.{Edition}
 use Rattle.slots.specs.View.{viewOf}
 use Rattle.slots.specs.ViewLaws.{view-length}
 use Rattle.sheet.specs.Blanks.{toldOf, trimmed}
 use Rattle.sheet.specs.Line.{lineOf}
 use Rattle.sheet.specs.declared.meaning.Line.{Line}
-use Rattle.sheet.specs.declared.meaning.Line.the-variants.{Nothing, Push, Literal, Unreadable}
+use Rattle.sheet.specs.declared.meaning.Line.the-variants.{Nothing, Push, Literal, Named, Unreadable}
 use Rattle.sheet.specs.declared.meaning.Fault.{Fault}
 use Rattle.wording.specs.Wording.{faultOf, placeOf}
 use Rattle.wording.specs.Room.{step-room, fault-length, place-length}
@@ -26,6 +27,7 @@ unfolding answerOf
 answer-room number Nothing report depth top h = omega arith
 answer-room number (Push n) report depth top h = step-room report depth top h
 answer-room number (Literal l) report depth top h = step-room report depth top h
+answer-room number (Named e) report depth top h = omega arith
 answer-room number (Unreadable f) report depth top h =
     let a = ascii "? line " ++ decimalOf number in
     omega (arith, length-append (ascii "? line ") (decimalOf number), length-append a (10 ∷ []), digits-length 19 number)
@@ -47,24 +49,25 @@ unfolding saidOf complaintOf
 said-room terminal number text Nothing = omega arith
 said-room terminal number text (Push n) = omega arith
 said-room terminal number text (Literal l) = omega arith
+said-room terminal number text (Named e) = omega arith
 said-room true number text (Unreadable f) = complaint-length (ascii "line ") number text f (ascii "; type it again\n") (omega arith) (omega arith)
 said-room false number text (Unreadable f) =
     complaint-length (ascii "calc: line ") number text f (ascii "; nothing from this line on was done\n") (omega arith) (omega arith)
 
 -- a line that is done
-module _ (terminal : Bool) (s : List ℕ) (d number : ℕ) (line out err : List ℕ) where
+module _ (terminal : Bool) (ed : Edition) (s : List ℕ) (d number : ℕ) (line out err : List ℕ) where
   abbrev said : Line
   said = lineOf (toldOf number line)
 
   abbrev left : Left
-  left = lineLeft terminal true s d number line out err
+  left = lineLeft terminal true ed s d number line out err
 
-  pub answer-whole : length out ≡ 64 → before (left .3) ≡ writtenOf number said (stepOf s d said)
+  pub answer-whole : length out ≡ 64 → before (left .4) ≡ writtenOf number said (stepOf ed s d said)
   unfolding lineLeft
   answer-whole h =
-      let done = stepOf s d said in
+      let done = stepOf ed s d said in
       puts-whole out _ (omega (arith, answer-room number said (done .0 .report) (done .0 .depth) (viewOf (done .1) (done .0 .depth)) (view-length (done .1) (done .0 .depth))))
 
-  pub complaint-whole : length err ≡ 256 → before (left .4) ≡ saidOf terminal number (trimmed (toldOf number line)) said
+  pub complaint-whole : length err ≡ 256 → before (left .5) ≡ saidOf terminal number (trimmed (toldOf number line)) said
   unfolding lineLeft
   complaint-whole h = puts-whole err _ (omega (arith, said-room terminal number (trimmed (toldOf number line)) said))

@@ -1,14 +1,16 @@
-// One line of a sheet, from its number, the stack and the depth to what it writes and what it leaves.
+// One line of a sheet, from its number, the stack, the depth and the edition to what it writes and what it leaves.
 use crate::answers;
 use crate::complaints;
 use crate::steps;
+use calculator::Edition;
 use sheet::Line;
 ghost use mathlib.Core.Path.{_≡_};
 ghost use Rattle.reply.specs.Following.{goesOn, lineLeft};
 
-// The depth after a line, whether another step may be done, and how much was put for standard output and for standard error.
+// The depth and the edition after a line, whether another step may be done, and how much was put for standard output and for standard error.
 pub struct Answered {
     pub depth: usize,
+    pub edition: Edition,
     pub going: bool,
     pub out: usize,
     pub err: usize,
@@ -21,11 +23,13 @@ fn goes_on(terminal: bool, said: Line) -> bool
         Line::Nothing => true,
         Line::Push(_) => true,
         Line::Literal(_) => true,
+        Line::Named(_) => true,
         Line::Unreadable(_) => terminal,
     }
 }
 
 pub fn answer_line(
+    edition: Edition,
     stack: &mut [u8],
     depth: usize,
     going: bool,
@@ -35,13 +39,13 @@ pub fn answer_line(
     out: &mut [u8],
     err: &mut [u8],
 ) -> Answered
-    ensures { λ r. ⌜ (now (stack .exit), r .depth, r .going, (now (out .exit), r .out), (now (err .exit), r .err))
-        ≡ lineLeft terminal going (now (stack .entry)) depth number (now (line .entry)) (now (out .entry)) (now (err .entry)) ⌝ }
+    ensures { λ r. ⌜ (now (stack .exit), r .depth, r .edition, r .going, (now (out .exit), r .out), (now (err .exit), r .err))
+        ≡ lineLeft terminal going edition (now (stack .entry)) depth number (now (line .entry)) (now (out .entry)) (now (err .entry)) ⌝ }
 {
     if going {
         let told = sheet::told(line, number);
         let said = sheet::line_of(told);
-        let done = steps::step(stack, depth, said);
+        let done = steps::step(edition, stack, depth, said);
         let after = done.depth;
         let written = answers::put_answer(
             out,
@@ -54,6 +58,7 @@ pub fn answer_line(
         let complained = complaints::put_said(err, terminal, number, sheet::trimmed(told), said);
         return Answered {
             depth: after,
+            edition: steps::edition_after(edition, said),
             going: goes_on(terminal, said),
             out: written,
             err: complained,
@@ -61,6 +66,7 @@ pub fn answer_line(
     }
     Answered {
         depth,
+        edition,
         going: false,
         out: 0,
         err: 0,

@@ -27,6 +27,7 @@ pub(crate) fn put_answer(
         Line::Nothing => 0,
         Line::Push(_) => wording::put_step(out, 0, report, depth, top),
         Line::Literal(_) => wording::put_step(out, 0, report, depth, top),
+        Line::Named(_) => 0,
         Line::Unreadable(_) => put_unreadable(out, number),
     }
 }

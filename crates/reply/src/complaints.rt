@@ -34,6 +34,7 @@ pub(crate) fn put_said(
         Line::Nothing => 0,
         Line::Push(_) => 0,
         Line::Literal(_) => 0,
+        Line::Named(_) => 0,
         Line::Unreadable(fault) => {
             if terminal {
                 return put_complaint(out, b"line ", number, text, fault, b"; type it again\n");

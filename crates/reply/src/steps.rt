@@ -1,11 +1,12 @@
 // What a line of the sheet does to the stack.
+use calculator::Edition;
 use calculator::Outcome;
 use sheet::Line;
 ghost use mathlib.Core.Path.{_≡_};
-ghost use Rattle.reply.specs.Step.{stepOf};
+ghost use Rattle.reply.specs.Step.{stepOf, editionAfter};
 
-pub(crate) fn step(stack: &mut [u8], depth: usize, said: Line) -> Outcome
-    ensures { λ r. ⌜ stepOf (now (stack .entry)) depth said ≡ (r, now (stack .exit)) ⌝ }
+pub(crate) fn step(edition: Edition, stack: &mut [u8], depth: usize, said: Line) -> Outcome
+    ensures { λ r. ⌜ stepOf edition (now (stack .entry)) depth said ≡ (r, now (stack .exit)) ⌝ }
 {
     match said {
         Line::Push(n) => {
@@ -19,8 +20,22 @@ pub(crate) fn step(stack: &mut [u8], depth: usize, said: Line) -> Outcome
             ];
             calculator::push(stack, depth, &five)
         }
-        Line::Literal(l) => calculator::operate(stack, depth, l),
+        Line::Literal(l) => calculator::operate_in(edition, stack, depth, l),
         Line::Nothing => Outcome { report: 0, depth },
+        Line::Named(_) => Outcome { report: 0, depth },
         Line::Unreadable(_) => Outcome { report: 0, depth },
+    }
+}
+
+// The edition from here on.
+pub(crate) fn edition_after(edition: Edition, said: Line) -> Edition
+    ensures { λ r. ⌜ r ≡ editionAfter edition said ⌝ }
+{
+    match said {
+        Line::Nothing => edition,
+        Line::Push(_) => edition,
+        Line::Literal(_) => edition,
+        Line::Named(named) => named,
+        Line::Unreadable(_) => edition,
     }
 }

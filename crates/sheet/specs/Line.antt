@@ -9,15 +9,16 @@ use lib.Dec.{eqb, ltb, leb}
 use lib.ListN.{length, drop, getD, drop-of-length-le, List·getD-eq-default}
 use lib.Seq.{drop-cons}
 use borrow.Author.Tests.{lt-ltb, le-ltb, lt-leb, le-leb}
+use Rattle.edition.specs.declared.Edition.the-variants.{Shipped, Mended}
 use Rattle.number.specs.Number.{shortOf}
 use Rattle.text.specs.Ascii.{ascii}
 use Rattle.sheet.specs.declared.meaning.Line.{Line}
-use Rattle.sheet.specs.declared.meaning.Line.the-variants.{Nothing, Push, Literal, Unreadable}
-use Rattle.sheet.specs.declared.meaning.Fault.the-variants.{LongLine, BareNumber, BadPush, BadLiteral}
+use Rattle.sheet.specs.declared.meaning.Line.the-variants.{Nothing, Push, Literal, Named, Unreadable}
+use Rattle.sheet.specs.declared.meaning.Fault.the-variants.{LongLine, BareNumber, BadPush, BadLiteral, BadEdition}
 use Rattle.sheet.specs.Begins.{begins}
 use Rattle.sheet.specs.Blanks.{blank, started, trimmed}
 use Rattle.sheet.specs.Decimal.{decimalIn}
-use Rattle.sheet.specs.Names.{literalOf}
+use Rattle.sheet.specs.Names.{literalOf, editionOf}
 use Rattle.sheet.specs.Numbers.{numberFrom}
 
 -- what follows a word and a blank; nothing where the text begins otherwise
@@ -52,6 +53,10 @@ pushed s = cond (eqb (getD s 0 0) 45) (shortPushed 1 (decimalIn 65535 (drop 1 s)
 unfoldable pub numbered : List ℕ → Line
 numbered s = cond (ltb 255 (decimalIn 255 s)) (Unreadable BadLiteral) (Literal (decimalIn 255 s))
 
+-- an edition by its name
+unfoldable pub named : List ℕ → Line
+named s = cond (eqb (editionOf s) 0) (Named Shipped) (cond (eqb (editionOf s) 1) (Named Mended) (Unreadable BadEdition))
+
 -- a number alone: digits and + , - . / are 43 to 57 in ASCII
 unfoldable pub bare : List ℕ → Bool
 bare [] = true
@@ -85,7 +90,8 @@ said s =
     cond (eqb (length s) 0) Nothing
     (cond (ltb 0 (length (after (ascii "push") s))) (pushed (after (ascii "push") s))
     (cond (ltb 0 (length (after (ascii "literal") s))) (numbered (after (ascii "literal") s))
-    (plain s)))
+    (cond (ltb 0 (length (after (ascii "edition") s))) (named (after (ascii "edition") s))
+    (plain s))))
 
 -- what stands before the comment has at most 65,535 bytes
 unfoldable pub lineOf : List ℕ → Line

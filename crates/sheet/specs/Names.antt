@@ -1,4 +1,4 @@
--- A literal by its name in the ROM's listing; 256 stands for none.
+-- A literal by its name in the ROM's listing, where 256 stands for none; and an edition by its name.
 use Prim.Native.Nat.{ℕ}
 use mathlib.Core.Bool.{cond}
 use mathlib.Core.List.{List}
@@ -31,3 +31,7 @@ literalOf s =
     (ifNamed s (ascii "divide") 5
     (ifNamed s (ascii "add") 15
     (laterOf s))))))
+
+-- 0 shipped, 1 mended; 2 stands for none
+unfoldable pub editionOf : List ℕ → ℕ
+editionOf s = ifNamed s (ascii "shipped") 0 (ifNamed s (ascii "mended") 1 2)

@@ -3,18 +3,19 @@ use Prim.Native.Nat.{ℕ}
 use Prim.Native.String.{String}
 use mathlib.Core.Path.{_≡_, refl}
 use mathlib.Core.List.{List, [], _∷_, _++_, map}
+use Rattle.edition.specs.declared.Edition.the-variants.{Shipped, Mended}
 use Rattle.number.specs.Number.{bytes}
 use Rattle.text.specs.Ascii.{ascii}
 use Rattle.text.specs.Digits.{valueOf}
 use Rattle.sheet.specs.declared.meaning.Line.{Line}
-use Rattle.sheet.specs.declared.meaning.Line.the-variants.{Nothing, Push, Literal, Unreadable}
-use Rattle.sheet.specs.declared.meaning.Fault.the-variants.{BareNumber, BadPush, BadLiteral, NoStep}
+use Rattle.sheet.specs.declared.meaning.Line.the-variants.{Nothing, Push, Literal, Named, Unreadable}
+use Rattle.sheet.specs.declared.meaning.Fault.the-variants.{BareNumber, BadPush, BadLiteral, BadEdition, NoStep}
 use Rattle.sheet.specs.Begins.{begins}
 use Rattle.sheet.specs.Blanks.{byteOrderMark, toldOf, unmarked, commentFrom, blank, started, endOf}
 use Rattle.sheet.specs.Decimal.{decimalFrom, decimalIn}
-use Rattle.sheet.specs.Names.{ifNamed, laterOf, literalOf}
+use Rattle.sheet.specs.Names.{ifNamed, laterOf, literalOf, editionOf}
 use Rattle.sheet.specs.Numbers.{numberFrom}
-use Rattle.sheet.specs.Line.{lineOf, said, after, pushed, shortPushed, numbered, bare, plain}
+use Rattle.sheet.specs.Line.{lineOf, said, after, pushed, shortPushed, numbered, named, bare, plain}
 
 pub record Case : Type 0 where
   pub line : String
@@ -55,6 +56,13 @@ lines =
     ∷ row "literal 256" (Unreadable BadLiteral)
     ∷ row "multiply" (Literal 4)
     ∷ row "re-stack" (Literal 61)
+    ∷ row "edition mended" (Named Mended)
+    ∷ row " edition  shipped\t# as it was sold" (Named Shipped)
+    ∷ row "edition mendet" (Unreadable BadEdition)
+    ∷ row "edition Mended" (Unreadable BadEdition)
+    ∷ row "edition mended 2" (Unreadable BadEdition)
+    ∷ row "edition" (Unreadable NoStep)
+    ∷ row "mended" (Unreadable NoStep)
     ∷ row "add 5" (Unreadable NoStep)
     ∷ row "Add" (Unreadable NoStep)
     ∷ []
@@ -65,7 +73,7 @@ Marked = (lineOf (toldOf 1 (byteOrderMark ++ ascii "add")) ≡ Literal 15) × (l
 
 computed : Hold lines × Marked
 unfolding
-    lineOf said after pushed shortPushed numbered bare plain numberFrom literalOf laterOf ifNamed decimalIn decimalFrom begins unmarked commentFrom
+    lineOf said after pushed shortPushed numbered named bare plain numberFrom literalOf laterOf editionOf ifNamed decimalIn decimalFrom begins unmarked commentFrom
     blank started endOf valueOf
 computed = (refl, (refl, refl))
 

@@ -1,4 +1,5 @@
 // What a line of a sheet says.
+use edition::Edition;
 use number::Number;
 
 pub enum Line {
@@ -6,6 +7,8 @@ pub enum Line {
     Nothing,
     Push(Number),
     Literal(u8),
+    // The edition of the literals from here on.
+    Named(Edition),
     Unreadable(Fault),
 }
 
@@ -17,6 +20,8 @@ pub enum Fault {
     // No whole number in range after `push`, or after `literal`.
     BadPush,
     BadLiteral,
+    // Neither edition's name after `edition`.
+    BadEdition,
     // Anything else.
     NoStep,
 }

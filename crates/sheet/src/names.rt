@@ -1,7 +1,7 @@
-// A literal by its name in the ROM's listing; 256 stands for none.
+// A literal by its name in the ROM's listing, where 256 stands for none; and an edition by its name.
 use crate::begins::begins;
 ghost use mathlib.Core.Path.{_≡_};
-ghost use Rattle.sheet.specs.Names.{ifNamed, laterOf, literalOf};
+ghost use Rattle.sheet.specs.Names.{ifNamed, laterOf, literalOf, editionOf};
 
 // The literal where the text is its name, and else what the text may be besides.
 fn if_named(text: &[u8], name: &[u8], literal: u16, other: u16) -> u16
@@ -24,6 +24,14 @@ fn later(text: &[u8]) -> u16
     let r49 = if_named(text, b"duplicate", 49, r58);
     let r39 = if_named(text, b"int", 39, r49);
     if_named(text, b"negate", 27, r39)
+}
+
+// An edition by its name: 0 shipped, 1 mended, and 2 stands for none.
+pub(crate) fn edition_of(text: &[u8]) -> u16
+    ensures { λ r. ⌜ r ≡ editionOf (now (text .entry)) ⌝ }
+{
+    let r1 = if_named(text, b"mended", 1, 2);
+    if_named(text, b"shipped", 0, r1)
 }
 
 pub(crate) fn literal_of(text: &[u8]) -> u16

@@ -6,11 +6,12 @@ use crate::meaning::Fault;
 use crate::meaning::Line;
 use crate::names;
 use crate::numbers;
+use edition::Edition;
 use number::Number;
 ghost use mathlib.Core.Path.{_≡_};
 ghost use Prim.Native.Nat.{_<_};
 ghost use lib.ListN.{length};
-ghost use Rattle.sheet.specs.Line.{after, shortPushed, pushed, numbered, bare, plain, said, lineOf};
+ghost use Rattle.sheet.specs.Line.{after, shortPushed, pushed, numbered, named, bare, plain, said, lineOf};
 
 // What follows a word and a blank.
 fn after<'a>(text: &'a [u8], word: &[u8]) -> &'a [u8]
@@ -66,6 +67,19 @@ fn numbered(text: &[u8]) -> Line
     Line::Literal(v as u8)
 }
 
+fn named(text: &[u8]) -> Line
+    ensures { λ r. ⌜ r ≡ named (now (text .entry)) ⌝ }
+{
+    let n = names::edition_of(text);
+    if n == 0 {
+        return Line::Named(Edition::Shipped);
+    }
+    if n == 1 {
+        return Line::Named(Edition::Mended);
+    }
+    Line::Unreadable(Fault::BadEdition)
+}
+
 // Digits and + , - . / alone.
 fn is_bare(text: &[u8]) -> bool
     ensures { λ r. ⌜ r ≡ bare (now (text .entry)) ⌝ }
@@ -112,6 +126,10 @@ fn said(text: &[u8]) -> Line
     let number = after(text, b"literal");
     if 0 < number.len() {
         return numbered(number);
+    }
+    let edition = after(text, b"edition");
+    if 0 < edition.len() {
+        return named(edition);
     }
     plain(text)
 }

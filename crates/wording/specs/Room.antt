@@ -9,7 +9,7 @@ use lib.ListN.{length, take, length-append, length-take}
 use Rattle.text.specs.Ascii.{ascii}
 use Rattle.text.specs.Digits.{decimalOf, eachOf, digits-length, each-length}
 use Rattle.sheet.specs.declared.meaning.Fault.{Fault}
-use Rattle.sheet.specs.declared.meaning.Fault.the-variants.{LongLine, BareNumber, BadPush, BadLiteral, NoStep}
+use Rattle.sheet.specs.declared.meaning.Fault.the-variants.{LongLine, BareNumber, BadPush, BadLiteral, BadEdition, NoStep}
 use Rattle.wording.specs.Wording.{topOf, stepAnswer, faultOf, shownOf, placeOf}
 
 top-length : (bs : List ℕ) → length bs ≤ 5 → length (topOf bs) ≤ 15
@@ -48,6 +48,7 @@ fault-length LongLine = omega arith
 fault-length BareNumber = omega arith
 fault-length BadPush = omega arith
 fault-length BadLiteral = omega arith
+fault-length BadEdition = omega arith
 fault-length NoStep = omega arith
 
 pub place-length : (first : List ℕ) (number : ℕ) (text : List ℕ) → length first ≤ 16 → length (placeOf first number text) ≤ 100

@@ -11,7 +11,7 @@ use Rattle.text.specs.Put.{Text, putOf, putsOf}
 use Rattle.text.specs.Ascii.{ascii}
 use Rattle.text.specs.Digits.{decimalOf, eachOf}
 use Rattle.sheet.specs.declared.meaning.Fault.{Fault}
-use Rattle.sheet.specs.declared.meaning.Fault.the-variants.{LongLine, BareNumber, BadPush, BadLiteral, NoStep}
+use Rattle.sheet.specs.declared.meaning.Fault.the-variants.{LongLine, BareNumber, BadPush, BadLiteral, BadEdition, NoStep}
 
 -- the top's bytes, a space before each
 unfoldable pub topOf : List ℕ → List ℕ
@@ -27,7 +27,8 @@ faultOf LongLine = ascii "it is longer than 65535 bytes"
 faultOf BareNumber = ascii "a number alone is not read: write push N to enter it, or literal N for a literal"
 faultOf BadPush = ascii "push takes a whole number from -65535 to 65535"
 faultOf BadLiteral = ascii "literal takes a whole number from 0 to 255"
-faultOf NoStep = ascii "a step is five bytes in hex as 00 00 04 00 00, push N, literal N, or a literal's name"
+faultOf BadEdition = ascii "edition takes shipped or mended"
+faultOf NoStep = ascii "a line is five bytes in hex as 00 00 04 00 00, push N, literal N, a literal's name, or edition NAME"
 
 -- the first 60 bytes of a text, with `?` (63) for what is not printed as it is
 abbrev pub shownByte : ℕ → ℕ

@@ -53,10 +53,11 @@ pub fn put_fault(out: &mut [u8], at: usize, fault: Fault) -> usize
         ),
         Fault::BadPush => text::put_all(out, at, b"push takes a whole number from -65535 to 65535"),
         Fault::BadLiteral => text::put_all(out, at, b"literal takes a whole number from 0 to 255"),
+        Fault::BadEdition => text::put_all(out, at, b"edition takes shipped or mended"),
         Fault::NoStep => text::put_all(
             out,
             at,
-            b"a step is five bytes in hex as 00 00 04 00 00, push N, literal N, or a literal's name",
+            b"a line is five bytes in hex as 00 00 04 00 00, push N, literal N, a literal's name, or edition NAME",
         ),
     }
 }

@@ -11,15 +11,16 @@ returns : tie.Need-returns
 unfolding saidOf complaintOf
 returns c = simp (c .before .before .before .before .before .before .before .before .said .given .1, c .before .before .before .before .before .before .if1 .taken) (c .before .before .put-complaint .ensures)
 
-returns-5 : tie.Need-returns-5
+returns-6 : tie.Need-returns-6
 unfolding saidOf complaintOf
-returns-5 c = simp (c .before .before .before .before .before .before .before .before .said .given .1, c .before .before .before .before .before .before .if1 .left) (c .before .before .put-complaint2 .ensures)
+returns-6 c = simp (c .before .before .before .before .before .before .before .before .said .given .1, c .before .before .before .before .before .before .if1 .left) (c .before .before .put-complaint2 .ensures)
 
 pub put-said-spec : {M : Type 1} → statement M
 unfolding saidOf putsOf
 put-said-spec =
     tie.close
     (tie.spec
+    (λ c. search needs)
     (λ c. search needs)
     (λ c. search needs)
     (λ c. search needs)
@@ -35,5 +36,6 @@ put-said-spec =
     (λ c. simp (c .enum-told .given .1))
     (λ c. simp (c .enum-told2 .given .1))
     (λ c. simp (c .enum-told3 .given .1))
+    (λ c. simp (c .enum-told4 .given .1))
     (λ c. c .before .before .put-complaint2 .kept .0)
-    returns-5)
+    returns-6)

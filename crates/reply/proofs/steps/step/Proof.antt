@@ -11,7 +11,7 @@ returns c = simp (c .before .before .before .before .before .before .said .given
 
 returns-2 : tie.Need-returns-2
 unfolding stepOf
-returns-2 c = simp (c .before .before .before .before .before .said2 .given .1) (c .before .before .operate .ensures)
+returns-2 c = simp (c .before .before .before .before .before .said2 .given .1) (c .before .before .operate-in .ensures)
 
 returns-3 : tie.Need-returns-3
 unfolding stepOf
@@ -20,6 +20,10 @@ returns-3 c = simp (c .enum-told .given .1)
 returns-4 : tie.Need-returns-4
 unfolding stepOf
 returns-4 c = simp (c .enum-told2 .given .1)
+
+returns-5 : tie.Need-returns-5
+unfolding stepOf
+returns-5 c = simp (c .enum-told3 .given .1)
 
 pub step-spec : {M : Type 1} → statement M
 step-spec =
@@ -37,8 +41,10 @@ step-spec =
     (λ c. search needs)
     (λ c. search needs)
     (λ c. search needs)
+    (λ c. search needs)
     returns
     (λ c. search needs)
     returns-2
     returns-3
-    returns-4)
+    returns-4
+    returns-5)
