@@ -11,7 +11,7 @@ use Rattle.number.specs.declared.Number.{Number}
 use Rattle.slots.specs.Slots.{slot, numberIn, putSlot}
 use Rattle.slots.specs.SlotLaws.{length-putSlot}
 use Rattle.slots.specs.Reports.{overLimits, noRoom}
-use Rattle.demands.specs.SlotFacts.{length-slot, number-slot, put-slot, put-other}
+use Rattle.slots.specs.SlotFacts.{length-slot, number-slot, put-slot, put-other}
 
 -- R relates the bytes of two slots, one of each stack
 pub record Agree (R : List ℕ → List ℕ → Type 0) (d : ℕ) (s s′ : List ℕ) : Type 0 where

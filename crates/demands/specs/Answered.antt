@@ -12,7 +12,7 @@ use Rattle.slots.specs.Slots.{numberIn, lower, top}
 use Rattle.literals.specs.Literals.{two, operationOf}
 use Rattle.literals.specs.Reports.{isTooBig, tooBig}
 use Rattle.literals.specs.Operate.{operateOf}
-use Rattle.demands.specs.SlotFacts.{number-there}
+use Rattle.slots.specs.SlotFacts.{number-there}
 use Rattle.demands.specs.Accepted.{Passed, accepted, within}
 use Rattle.demands.specs.Counts.{takesOf, takes-are, leavesOf, leaves-are}
 use Rattle.demands.specs.Demand1.{operation-report}

@@ -12,7 +12,7 @@ use Rattle.number.specs.NumberLaws.{upper}
 use Rattle.ending.specs.declared.answer.Answer.{Answer}
 use Rattle.slots.specs.Slots.{numberIn, bytesOf}
 use Rattle.literals.specs.Literals.{one, two, Row, operationOf}
-use Rattle.demands.specs.SlotFacts.{number-back}
+use Rattle.slots.specs.SlotFacts.{number-back}
 use Rattle.demands.specs.Table.{_and_, each-row}
 use Rattle.demands.specs.Independence.{Answers, done, too-big, InBytes, Kept, Carried}
 use Rattle.demands.specs.ButB5.{SameFour, Like, OnlyB5, SameButB5, four-of}

@@ -14,7 +14,7 @@ use Rattle.slots.specs.Slots.{slot, numberIn, putSlot}
 use Rattle.slots.specs.SlotLaws.{length-putSlot}
 use Rattle.literals.specs.Literals.{takes}
 use Rattle.literals.specs.Reports.{isTooBig}
-use Rattle.demands.specs.SlotFacts.{put-slot, put-elsewhere}
+use Rattle.slots.specs.SlotFacts.{put-slot, put-elsewhere}
 use Rattle.demands.specs.Accepted.{Passed, within}
 
 -- every byte of the stack is below 256

@@ -23,7 +23,7 @@ use Rattle.literals.specs.Literals.{Operation, exchange, delete, duplicate, one
 use Rattle.literals.specs.Reports.{noRoomFor, tooBig, reportOf}
 use Rattle.literals.specs.Operate.{stored, bytesAfter, operateOf}
 use Rattle.literals.specs.OperateLaws.{operate-done}
-use Rattle.demands.specs.SlotFacts.{length-slot, same-slot}
+use Rattle.slots.specs.SlotFacts.{length-slot, same-slot}
 use Rattle.demands.specs.Accepted.{accepted, within, pushable, fits}
 use Rattle.demands.specs.Counts.{takesOf, takes-are}
 use Rattle.demands.specs.Bytes.{Only, only-put, number-of}

@@ -20,7 +20,7 @@ use Rattle.literals.specs.Reports.{malformedIn}
 use Rattle.literals.specs.Operate.{operateOf}
 use Rattle.calculator.specs.Run.{runOf}
 use Rattle.display.specs.Cell.{numberShown, cellOf}
-use Rattle.demands.specs.SlotFacts.{byte-in-slot, same-slot}
+use Rattle.slots.specs.SlotFacts.{byte-in-slot, same-slot}
 use Rattle.demands.specs.Agreement.{Agree, limits-agree}
 use Rattle.demands.specs.Independence.{Kept, Carried, answers-same}
 use Rattle.demands.specs.Alike.{Alike, RunsAlike, choice, neither, related-operations, related-pushes, related-runs, related-cells}

@@ -1,4 +1,3 @@
-pub mod SlotFacts
 pub mod Accepted
 pub mod Table
 pub mod Counts

@@ -17,7 +17,7 @@ use Rattle.literals.specs.Reports.{notInTable, malformedIn, malformedOperand, t
 use Rattle.literals.specs.Operate.{operateOf}
 use Rattle.calculator.specs.declared.outcome.RunOutcome.{RunOutcome}
 use Rattle.calculator.specs.Run.{goOn, runOf}
-use Rattle.demands.specs.SlotFacts.{same-slot, number-slot, number-back}
+use Rattle.slots.specs.SlotFacts.{same-slot, number-slot, number-back}
 use Rattle.demands.specs.Counts.{takesOf, leavesOf, takes-are, leaves-are}
 use Rattle.demands.specs.Accepted.{accepted}
 use Rattle.demands.specs.Alike.{neither}

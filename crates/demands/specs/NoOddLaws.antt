@@ -17,7 +17,7 @@ use Rattle.multiplication.specs.NotOdd.{product-not-odd}
 use Rattle.truncation.specs.NotOdd.{truncated-not-odd, int-not-odd}
 use Rattle.slots.specs.Slots.{slot, numberIn}
 use Rattle.literals.specs.Literals.{Operation, exchange, delete, duplicate, one, two, unknown, Row, operationOf}
-use Rattle.demands.specs.SlotFacts.{same-slot, number-slot}
+use Rattle.slots.specs.SlotFacts.{same-slot, number-slot}
 use Rattle.demands.specs.Table.{_and_, each-row}
 use Rattle.demands.specs.Bytes.{Only}
 

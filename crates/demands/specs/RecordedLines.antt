@@ -8,7 +8,7 @@ use lib.ListN.{length, length-take}
 use Rattle.text.specs.Put.{Text, before}
 use Rattle.slots.specs.Slots.{bytesOf}
 use Rattle.sheet.specs.declared.meaning.Line.{Line}
-use Rattle.sheet.specs.declared.meaning.Line.the-variants.{Nothing, Push, Literal, Unreadable}
+use Rattle.sheet.specs.declared.meaning.Line.the-variants.{Nothing, Push, Literal, Named, Unreadable}
 use Rattle.sheet.specs.Blanks.{toldOf}
 use Rattle.sheet.specs.Line.{lineOf}
 use Rattle.replaying.specs.declared.answer.Verdict.the-variants.{Agree}
@@ -26,6 +26,7 @@ unfolding andStep bytesOf
 and-one Nothing end e a = a
 and-one (Push n) end e a = also refl a
 and-one (Literal l) end e a = also (no-zero l end e .0) a
+and-one (Named v) end e a = a
 and-one (Unreadable f) end e a = a
 
 recordable : {ls : List (ℕ × List ℕ)} {s : List ℕ} {d : ℕ} {t : Text} {k : Kept} → Taking ls s d t k → All (stepsOf ls)

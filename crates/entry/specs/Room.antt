@@ -17,7 +17,7 @@ use Rattle.wording.specs.Room.{fault-length, place-length}
 use Rattle.replaying.specs.TopLaws.{top-long}
 use Rattle.replaying.specs.Made.{Step, push, literal, doneBy, recordOf}
 use Rattle.entry.specs.declared.why.Why.{Why}
-use Rattle.entry.specs.declared.why.Why.the-variants.{None, Unread, Zero, Full}
+use Rattle.entry.specs.declared.why.Why.the-variants.{None, Unread, Mended, Zero, Full}
 use Rattle.entry.specs.Complaint.{whyNot, isTaken, whyText, complaintOf}
 use Rattle.entry.specs.Entry.{Kept, stepKept, saidKept, lineRecorded}
 
@@ -39,6 +39,7 @@ why-length : (w : Why) → length (whyText w) ≤ 100
 unfolding whyText
 why-length None = omega arith
 why-length (Unread f) = fault-length f
+why-length Mended = omega arith
 why-length Zero = omega arith
 why-length Full = omega arith
 

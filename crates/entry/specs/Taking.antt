@@ -7,7 +7,7 @@ use lib.ListN.{length}
 use Rattle.text.specs.Put.{Text, before, puts-length}
 use Rattle.slots.specs.Slots.{bytesOf}
 use Rattle.sheet.specs.declared.meaning.Line.{Line}
-use Rattle.sheet.specs.declared.meaning.Line.the-variants.{Nothing, Push, Literal, Unreadable}
+use Rattle.sheet.specs.declared.meaning.Line.the-variants.{Nothing, Push, Literal, Named, Unreadable}
 use Rattle.sheet.specs.Blanks.{toldOf}
 use Rattle.sheet.specs.Line.{lineOf}
 use Rattle.replaying.specs.Made.{Step, push, literal, doneBy, recordOf, recordingOf}
@@ -20,6 +20,7 @@ unfoldable pub andStep : Line → List Step → List Step
 andStep Nothing xs = xs
 andStep (Push n) xs = push (bytesOf n) ∷ xs
 andStep (Literal l) xs = literal l ∷ xs
+andStep (Named e) xs = xs
 andStep (Unreadable f) xs = xs
 
 unfoldable pub stepsOf : List (ℕ × List ℕ) → List Step
@@ -41,6 +42,7 @@ module _ (s : List ℕ) (d : ℕ) (t : Text) where
   same-length Nothing = refl
   same-length (Push n) = puts-length t _
   same-length (Literal l) = puts-length t _
+  same-length (Named e) = refl
   same-length (Unreadable f) = refl
 
   module _ (h : length (t .0) ≡ 64000) (r : List ℕ) (xs : List Step) where
@@ -59,6 +61,7 @@ module _ (s : List ℕ) (d : ℕ) (t : Text) where
     ahead Nothing e q = q
     ahead (Push n) e q = let x = push (bytesOf n) in step x (push-long n _) (has-room (t .1) e) q
     ahead (Literal l) e q = step (literal l) (literal-long l _) (has-room (t .1) (no-zero l (t .1) e .1)) q
+    ahead (Named v) e q = q
     ahead (Unreadable f) e q = q
 
 pub taken-recording : {ls : List (ℕ × List ℕ)} {s : List ℕ} {d : ℕ} {t : Text} {k : Kept} → Taking ls s d t k → length (t .0) ≡ 64000

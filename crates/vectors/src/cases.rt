@@ -42,12 +42,46 @@ fn call(kind: u8, stack: &mut [u8], depth: usize, bytes: &[u8]) -> bool {
     }
 }
 
-// The longest list of literals that a case may have, or the longest recording.
-fn most(kind: u8) -> usize {
-    if kind == b'y' {
-        return 65000;
+// By the edition's number, the first byte: an operation with the one literal that follows it, or a run.
+fn call_in(kind: u8, stack: &mut [u8], depth: usize, edition: u8, bytes: &[u8]) -> bool {
+    let mut after = depth;
+    let mut position = 0;
+    if kind == b'R' {
+        let report = trenailer::trenailer_run_in(edition, stack, &mut after, bytes, &mut position);
+        return answers::write_answer(report, position, stack, after);
     }
-    61000
+    if bytes.len() == 1 {
+        let report = trenailer::trenailer_operate_in(edition, stack, &mut after, bytes[0]);
+        return answers::write_answer(report, 0, stack, after);
+    }
+    answers::write_malformed()
+}
+
+fn is_in_edition(kind: u8) -> bool {
+    if kind == b'O' {
+        return true;
+    }
+    kind == b'R'
+}
+
+// Whether the edition is named or none is.
+fn call_as(kind: u8, stack: &mut [u8], depth: usize, bytes: &[u8]) -> bool {
+    if !is_in_edition(kind) {
+        return call(kind, stack, depth, bytes);
+    }
+    if bytes.len() == 0 {
+        return answers::write_malformed();
+    }
+    call_in(kind, stack, depth, bytes[0], &bytes[1..])
+}
+
+// The longest list of literals that a case may have, with the edition before it or none, or the longest recording.
+fn most(kind: u8) -> usize {
+    match kind {
+        b'y' => 65000,
+        b'R' => 61001,
+        _ => 61000,
+    }
 }
 
 // A case whose depth and stack were read up to a place.
@@ -57,7 +91,7 @@ fn answer_on(line: &[u8], kind: u8, at: usize, stack: &mut [u8], depth: usize) -
     if most(kind) < given.value {
         answers::write_malformed()
     } else if given.next == line.len() {
-        call(kind, stack, depth, text::first(&bytes, given.value))
+        call_as(kind, stack, depth, text::first(&bytes, given.value))
     } else {
         answers::write_malformed()
     }

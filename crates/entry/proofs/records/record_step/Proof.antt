@@ -10,7 +10,7 @@ unfolding bytesOf
 returns-2 c = push-kept _ _ _ _ (c .before .before .before .before .before .before .before .before .before .before .before .said .given .1) (c .before .before .before .before .before .before .before .push .ensures) (c .before .before .put-record .ensures)
 
 returns-3 : tie.Need-returns-3
-returns-3 c = literal-kept _ _ _ (c .before .before .before .before .before .before .before .before .before .before .before .said2 .given .1) (c .before .before .before .before .before .before .before .before .operate .ensures) (c .before .before .before .view .ensures) (c .before .before .put-record2 .ensures)
+returns-3 c = literal-kept _ _ _ (c .before .before .before .before .before .before .before .before .before .before .before .said2 .given .1) (c .before .before .before .before .before .before .before .before .operate-in .ensures) (c .before .before .before .view .ensures) (c .before .before .put-record2 .ensures)
 
 pub record-step-spec : {M : Type 1} → statement M
 unfolding saidKept
@@ -32,11 +32,13 @@ record-step-spec =
     (λ c κs. tt)
     (λ c κs. tt)
     (λ c. search needs)
+    (λ c. search needs)
     (λ c. simp (c .enum-told .given .1))
     (λ c. c .before .before .before .before .before .before .before .push .kept .0)
     (λ c. c .before .before .put-record .kept .0)
     returns-2
-    (λ c. c .before .before .before .before .before .before .before .before .operate .kept .0)
+    (λ c. c .before .before .before .before .before .before .before .before .operate-in .kept .1 .0)
     (λ c. c .before .before .put-record2 .kept .0)
     returns-3
-    (λ c. simp (c .enum-told2 .given .1)))
+    (λ c. simp (c .enum-told2 .given .1))
+    (λ c. simp (c .enum-told3 .given .1)))
