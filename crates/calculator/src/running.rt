@@ -1,5 +1,4 @@
 // A run: a list of literals, done in turn until one is refused.
-use crate::operation::operate_in_place_in;
 use crate::outcome::RunOutcome;
 use edition::Edition;
 use literals::table;
@@ -18,20 +17,15 @@ struct Stop {
 pub fn run(stack: &mut [u8], depth: usize, literals: &[u8]) -> RunOutcome
     ensures { λ r. ⌜ runOf unnamed (now (stack .entry)) depth (now (literals .entry)) ≡ (r, now (stack .exit)) ⌝ }
 {
-    run_in(edition::unnamed(), stack, depth, literals)
-}
-
-// A loop of its own for each: whose literals they are is asked once, not of every one.
-pub fn run_in(edition: Edition, stack: &mut [u8], depth: usize, literals: &[u8]) -> RunOutcome
-    ensures { λ r. ⌜ runOf edition (now (stack .entry)) depth (now (literals .entry)) ≡ (r, now (stack .exit)) ⌝ }
-{
-    match edition {
+    let meant = edition::unnamed();
+    match meant {
         Edition::Shipped => run_shipped(stack, depth, literals),
-        Edition::Mended => run_through(edition, stack, depth, literals),
+        Edition::Mended => run_in(meant, stack, depth, literals),
     }
 }
 
-// Report 1 is checked once, even for an empty list.
+// A loop of its own for the edition that is meant by most, called from one place: the compiler then has it inside the call. Report 1 is checked once, even
+// for an empty list.
 fn run_shipped(stack: &mut [u8], depth: usize, literals: &[u8]) -> RunOutcome
     ensures { λ r. ⌜ runOf Shipped (now (stack .entry)) depth (now (literals .entry)) ≡ (r, now (stack .exit)) ⌝ }
 {
@@ -71,7 +65,7 @@ fn run_shipped(stack: &mut [u8], depth: usize, literals: &[u8]) -> RunOutcome
     }
 }
 
-fn run_through(edition: Edition, stack: &mut [u8], depth: usize, literals: &[u8]) -> RunOutcome
+pub fn run_in(edition: Edition, stack: &mut [u8], depth: usize, literals: &[u8]) -> RunOutcome
     ensures { λ r. ⌜ runOf edition (now (stack .entry)) depth (now (literals .entry)) ≡ (r, now (stack .exit)) ⌝ }
 {
     if slots::over_limits(stack, depth) {
@@ -97,7 +91,7 @@ fn run_through(edition: Edition, stack: &mut [u8], depth: usize, literals: &[u8]
                 position,
             };
         }
-        let report = operate_in_place_in(edition, stack, &mut current, literals[position]);
+        let report = step_in(edition, stack, &mut current, literals[position]);
         if report != 0 {
             break Stop { report, position };
         }
@@ -110,7 +104,7 @@ fn run_through(edition: Edition, stack: &mut [u8], depth: usize, literals: &[u8]
     }
 }
 
-// The table once more, for the shipped edition's run alone: the compiler then has each small literal inside the loop.
+// The tables once more, for runs alone: the compiler then has each small literal inside the loop, and no large one inside either table.
 fn step(stack: &mut [u8], depth: &mut usize, literal: u8) -> u8
     ensures { λ r. ⌜ operateOf Shipped (now (stack .entry)) (now (depth .entry)) literal ≡ (outcome r (now (depth .exit)), now (stack .exit)) ⌝ }
 {
@@ -127,6 +121,26 @@ fn step(stack: &mut [u8], depth: &mut usize, literal: u8) -> u8
         table::DUPLICATE => moving::duplicate(stack, depth),
         table::TRUNCATE => unary::truncate(stack, depth),
         table::RE_STACK => unary::re_stack(stack, depth),
+        _ => literals::unknown(stack, *depth),
+    }
+}
+
+fn step_in(edition: Edition, stack: &mut [u8], depth: &mut usize, literal: u8) -> u8
+    ensures { λ r. ⌜ operateOf edition (now (stack .entry)) (now (depth .entry)) literal ≡ (outcome r (now (depth .exit)), now (stack .exit)) ⌝ }
+{
+    match literal {
+        0 => literals::unknown(stack, *depth),
+        table::EXCHANGE => moving::exchange(stack, depth),
+        table::DELETE => moving::delete(stack, depth),
+        table::SUBTRACT => either::subtract(edition, stack, depth),
+        table::MULTIPLY => either::multiply(edition, stack, depth),
+        table::DIVIDE => either::divide(edition, stack, depth),
+        table::ADD => either::add(edition, stack, depth),
+        table::NEGATE => either::negate(edition, stack, depth),
+        table::INT => either::int(edition, stack, depth),
+        table::DUPLICATE => moving::duplicate(stack, depth),
+        table::TRUNCATE => either::truncate(edition, stack, depth),
+        table::RE_STACK => either::re_stack(edition, stack, depth),
         _ => literals::unknown(stack, *depth),
     }
 }

@@ -27,12 +27,12 @@ pub(crate) fn odd_top(edition: Edition, stack: &[u8], depth: usize) -> bool
 pub(crate) fn odd_pair(edition: Edition, stack: &[u8], depth: usize) -> bool
     ensures { λ r. ⌜ r ≡ oddPair edition (now (stack .entry)) depth ⌝ }
 {
-    if slots::lacks(stack, depth, 2) {
-        return false;
-    }
     match edition {
         Edition::Shipped => false,
         Edition::Mended => {
+            if slots::lacks(stack, depth, 2) {
+                return false;
+            }
             if odd_at(stack, depth, 1) {
                 return true;
             }

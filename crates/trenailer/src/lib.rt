@@ -63,7 +63,10 @@ pub extern "C" fn trenailer_run(
     ensures { λ r. ⌜ runOf unnamed (now (stack .entry)) (now (depth .entry)) (now (literals .entry))
         ≡ (runOutcome r (now (position .exit)) (now (depth .exit)), now (stack .exit)) ⌝ }
 {
-    run_there(edition::unnamed(), stack, depth, literals, position)
+    let done = calculator::run(stack, *depth, literals);
+    *depth = done.depth;
+    *position = done.position;
+    done.report
 }
 
 // A run in an edition, with the depth and the position where they stand.

@@ -2,13 +2,13 @@
 use borrow.Author.Needs.{needs}
 use Prim.Native.Nat.{ℕ}
 use mathlib.Core.Path.{_≡_, refl, sym, _∙_, ap}
-use mathlib.Core.Bool.{Bool, true, false, _||_}
+use mathlib.Core.Bool.{Bool, true, false, cond, _||_}
 use mathlib.Core.List.{List}
 use Rattle.edition.specs.declared.Edition.{Edition}
 use Rattle.edition.specs.declared.Edition.the-variants.{Shipped, Mended}
 use Rattle.number.specs.Number.{odd}
 use Rattle.slots.specs.Reach.{lacking, numberAt}
-use Rattle.either.specs.Mending.{oddPair}
+use Rattle.either.specs.Mending.{oddIn, oddPair}
 use Rattle.either.proofs.odd.odd_pair.Statement.{statement}
 use Rattle.either.proofs.odd.odd_pair.Tie as tie
 
@@ -17,9 +17,13 @@ module _ (ed : Edition) (s : List ℕ) (d : ℕ) where
   unfolding oddPair
   few h = simp (sym h)
 
-  none : ed ≡ Shipped → false ≡ lacking s d 2 → false ≡ oddPair ed s d
+  none : ed ≡ Shipped → false ≡ oddPair ed s d
   unfolding oddPair
-  none e h = simp (sym h, e)
+  none e = go (lacking s d 2)
+    where
+      go : (b : Bool) → false ≡ cond b false (oddIn ed (numberAt s d 1) || oddIn ed (numberAt s d 0))
+      go true = refl
+      go false = sym (simp e)
 
   first : ed ≡ Mended → false ≡ lacking s d 2 → true ≡ odd (numberAt s d 1) → true ≡ oddPair ed s d
   unfolding oddPair
@@ -33,19 +37,19 @@ pub odd-pair-spec : {M : Type 1} → statement M
 odd-pair-spec =
     tie.close
     (tie.spec
+    (λ c. search needs)
+    (λ c. search needs)
     (λ c κs. tt)
     (λ c. few _ _ _ (sym (c .if1 .taken) ∙ c .before .lacks .ensures))
-    (λ c. search needs)
-    (λ c. search needs)
     (λ c κs. tt)
     (λ c.
-    let m = c .before .before in
-    let e = m .before .before in
+    let e = c .before .before in
+    let m = e .before .before in
     first _ _ _ (m .enum-told2 .given .1) (sym (e .if1 .left) ∙ e .before .lacks .ensures) (sym (c .if2 .taken) ∙ c .before .odd-at .ensures))
     (λ c κs. tt)
-    (λ c. let e = c .before .before in none _ _ _ (c .enum-told .given .1) (sym (e .if1 .left) ∙ e .before .lacks .ensures))
+    (λ c. none _ _ _ (c .enum-told .given .1))
     (λ c.
     let o = c .before in
-    let m = o .before .before in
-    let e = m .before .before in
+    let e = o .before .before in
+    let m = e .before .before in
     second _ _ _ (m .enum-told2 .given .1) (sym (e .if1 .left) ∙ e .before .lacks .ensures) (sym (o .if2 .left) ∙ o .before .odd-at .ensures) _ (c .odd-at2 .ensures)))
