@@ -4,3 +4,9 @@ pub struct RunOutcome {
     pub position: usize,
     pub depth: usize,
 }
+
+// Where a run stopped.
+pub(crate) struct Stop {
+    pub(crate) report: u8,
+    pub(crate) position: usize,
+}

@@ -1,5 +1,7 @@
 // A run: a list of literals, done in turn until one is refused.
+use crate::named::run_in;
 use crate::outcome::RunOutcome;
+use crate::outcome::Stop;
 use edition::Edition;
 use literals::table;
 ghost use mathlib.Core.Path.{_≡_};
@@ -7,12 +9,6 @@ ghost use Rattle.edition.specs.Edition.{unnamed};
 ghost use Rattle.edition.specs.declared.Edition.the-variants.{Shipped};
 ghost use Rattle.literals.specs.Operate.{operateOf, outcome};
 ghost use Rattle.calculator.specs.Run.{runOf};
-
-// Where a run stopped.
-struct Stop {
-    report: u8,
-    position: usize,
-}
 
 pub fn run(stack: &mut [u8], depth: usize, literals: &[u8]) -> RunOutcome
     ensures { λ r. ⌜ runOf unnamed (now (stack .entry)) depth (now (literals .entry)) ≡ (r, now (stack .exit)) ⌝ }
@@ -65,46 +61,7 @@ fn run_shipped(stack: &mut [u8], depth: usize, literals: &[u8]) -> RunOutcome
     }
 }
 
-pub fn run_in(edition: Edition, stack: &mut [u8], depth: usize, literals: &[u8]) -> RunOutcome
-    ensures { λ r. ⌜ runOf edition (now (stack .entry)) depth (now (literals .entry)) ≡ (r, now (stack .exit)) ⌝ }
-{
-    if slots::over_limits(stack, depth) {
-        return RunOutcome {
-            report: 1,
-            position: 0,
-            depth,
-        };
-    }
-    if 60000 < literals.len() {
-        return RunOutcome {
-            report: 1,
-            position: 0,
-            depth,
-        };
-    }
-    let mut current = depth;
-    let mut position = 0;
-    let stop = loop {
-        if position == literals.len() {
-            break Stop {
-                report: 0,
-                position,
-            };
-        }
-        let report = step_in(edition, stack, &mut current, literals[position]);
-        if report != 0 {
-            break Stop { report, position };
-        }
-        position += 1;
-    };
-    RunOutcome {
-        report: stop.report,
-        position: stop.position,
-        depth: current,
-    }
-}
-
-// The tables once more, for runs alone: the compiler then has each small literal inside the loop, and no large one inside either table.
+// The table once more, for the run alone: the compiler then has each small literal inside the loop.
 fn step(stack: &mut [u8], depth: &mut usize, literal: u8) -> u8
     ensures { λ r. ⌜ operateOf Shipped (now (stack .entry)) (now (depth .entry)) literal ≡ (outcome r (now (depth .exit)), now (stack .exit)) ⌝ }
 {
@@ -121,26 +78,6 @@ fn step(stack: &mut [u8], depth: &mut usize, literal: u8) -> u8
         table::DUPLICATE => moving::duplicate(stack, depth),
         table::TRUNCATE => unary::truncate(stack, depth),
         table::RE_STACK => unary::re_stack(stack, depth),
-        _ => literals::unknown(stack, *depth),
-    }
-}
-
-fn step_in(edition: Edition, stack: &mut [u8], depth: &mut usize, literal: u8) -> u8
-    ensures { λ r. ⌜ operateOf edition (now (stack .entry)) (now (depth .entry)) literal ≡ (outcome r (now (depth .exit)), now (stack .exit)) ⌝ }
-{
-    match literal {
-        0 => literals::unknown(stack, *depth),
-        table::EXCHANGE => moving::exchange(stack, depth),
-        table::DELETE => moving::delete(stack, depth),
-        table::SUBTRACT => either::subtract(edition, stack, depth),
-        table::MULTIPLY => either::multiply(edition, stack, depth),
-        table::DIVIDE => either::divide(edition, stack, depth),
-        table::ADD => either::add(edition, stack, depth),
-        table::NEGATE => either::negate(edition, stack, depth),
-        table::INT => either::int(edition, stack, depth),
-        table::DUPLICATE => moving::duplicate(stack, depth),
-        table::TRUNCATE => either::truncate(edition, stack, depth),
-        table::RE_STACK => either::re_stack(edition, stack, depth),
         _ => literals::unknown(stack, *depth),
     }
 }

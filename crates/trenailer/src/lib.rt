@@ -80,10 +80,10 @@ fn run_there(
     ensures { λ r. ⌜ runOf edition (now (stack .entry)) (now (depth .entry)) (now (literals .entry))
         ≡ (runOutcome r (now (position .exit)) (now (depth .exit)), now (stack .exit)) ⌝ }
 {
-    let done = calculator::run_in(edition, stack, *depth, literals);
-    *depth = done.depth;
-    *position = done.position;
-    done.report
+    let ran = calculator::run_in(edition, stack, *depth, literals);
+    *depth = ran.depth;
+    *position = ran.position;
+    ran.report
 }
 
 #[no_mangle]

@@ -8,8 +8,8 @@ use mathlib.Core.Bool.{false}
 use Rattle.slots.specs.Reports.{overLimits}
 use Rattle.calculator.specs.Run.{goOn, runOf}
 use Rattle.calculator.specs.RunLaws.{at-end, stops, goes-on, run-over, run-too-long, run-starts}
-use Rattle.calculator.proofs.running.run_in.Statement.{statement}
-use Rattle.calculator.proofs.running.run_in.Tie as tie
+use Rattle.calculator.proofs.named.run_in.Statement.{statement}
+use Rattle.calculator.proofs.named.run_in.Tie as tie
 
 abbrev Inv-loop : tie.InvT-loop
 Inv-loop edition stack₀ depth literals current₀ position₀ stack current position =
