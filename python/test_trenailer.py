@@ -13,6 +13,7 @@ import struct
 import subprocess
 import sys
 import unittest
+import unittest.mock
 from pathlib import Path
 
 ROOT = Path(__file__).resolve().parent.parent
@@ -26,8 +27,9 @@ import trenailer  # noqa: E402
 
 # The format of crates/vectors, as the head of its src/main.rt has it. A line over LINE bytes, with its line feed, is no case.
 LINE = 65_536
-STACK, BYTES, RECORDING = 17_000, 61_000, 65_000
-CASE = re.compile(rb"([oprcy])([0-9]+) ([0-9]+):((?:[0-9A-Fa-f]{2})*)(\*?) ([0-9]+):((?:[0-9A-Fa-f]{2})*)(\*?)")
+STACK, BYTES = 17_000, 61_000
+LONGER = {b"y": 65_000, b"R": BYTES + 1}
+CASE = re.compile(rb"([oprcyOR])([0-9]+) ([0-9]+):((?:[0-9A-Fa-f]{2})*)(\*?) ([0-9]+):((?:[0-9A-Fa-f]{2})*)(\*?)")
 
 
 def given(length, digits, star, most):
@@ -53,14 +55,19 @@ def cell_told(cell):
     return {trenailer.BLANK: "B0", trenailer.ODD: "O0"}[cell.kind]
 
 
+def any_edition():
+    """Lets through to the library a number that is no edition's, which the module refuses by itself."""
+    return unittest.mock.patch.object(trenailer, "_edition", int)
+
+
 def answer(line):
     """What the library answers to a line of cases, without its line feed."""
     case = CASE.fullmatch(line) if len(line) < LINE else None
     if not case:
         return "?"
     kind, depth = case[1], int(case[2])
-    stack, some = given(*case.group(3, 4, 5), STACK), given(*case.group(6, 7, 8), RECORDING if kind == b"y" else BYTES)
-    if depth >= 1 << 64 or stack is None or some is None or (kind in b"oc" and len(some) != 1):
+    stack, some = given(*case.group(3, 4, 5), STACK), given(*case.group(6, 7, 8), LONGER.get(kind, BYTES))
+    if depth >= 1 << 64 or stack is None or some is None or (kind in b"oc" and len(some) != 1) or (kind == b"O" and len(some) != 2) or (kind == b"R" and not some):
         return "?"
     stack, position, field = bytearray(stack), 0, ""
     if kind == b"o":
@@ -69,6 +76,12 @@ def answer(line):
         report, depth = trenailer.push(stack, depth, some)
     elif kind == b"r":
         report, position, depth = trenailer.run(stack, depth, some)
+    elif kind == b"O":
+        with any_edition():
+            report, depth = trenailer.operate(stack, depth, some[1], edition=some[0])
+    elif kind == b"R":
+        with any_edition():
+            report, position, depth = trenailer.run(stack, depth, some[1:], edition=some[0])
     elif kind == b"y":
         report, position, compared, depth = trenailer.replay(stack, some)
         field = f"{int(compared)} "

@@ -93,6 +93,20 @@ class Sheets(unittest.TestCase):
             self.assertEqual(calc(sheet), (0, answers, b""), sheet[:20])
 
 
+class Editions(unittest.TestCase):
+    def test_it_holds_from_its_line_on(self):
+        steps = b"push 1\npush 10\ndivide\n"
+        status, out, err = shell('"$T" calc', steps + b"edition mended # the branch's\n" + steps + b"edition shipped\n" + steps)
+        self.assertEqual((status, out.splitlines()[2::3], err), (0, [b"0 1 7D 4C CC CC CC", b"0 2 7D 4C CC CC CD", b"0 3 7D 4C CC CC CC"], b""))
+
+    def test_one_that_there_is_not(self):
+        for line in (b"edition mendet", b"edition Mended", b"edition 1"):
+            said = b"calc: line 1: " + line + b": edition takes shipped or mended; nothing from this line on was done\n"
+            self.assertEqual(shell('"$T" calc', line + b"\npush 1\n"), (1, b"? line 1\n", said))
+        status, out, err = shell('"$T" calc', b"edition\n")
+        self.assertEqual((status, out, err.count(b"edition NAME")), (1, b"? line 1\n", 1))
+
+
 class Recordings(unittest.TestCase):
     def record(self, sheet):
         return shell('"$T" record', sheet)
@@ -121,6 +135,7 @@ class Recordings(unittest.TestCase):
 
     def test_lines_that_are_not_recorded(self):
         for sheet, said in ((SLIP, b"record: line 2: 00 00 O4 00 00: a line is five bytes in hex"), (b"push 1\n\nliteral 0 # none\n", b"record: line 3: literal 0: "),
+                            (b"edition shipped\npush 1\nedition mended\n", b"record: line 3: edition mended: recordings are of the shipped edition"),
                             (b"push 1\ndelete\n" * 2_000 + b"# that was all\nadd\n", b"record: line 4002: add: a recording holds 4000 records")):
             status, out, err = self.record(sheet)
             self.assertEqual((status, out, err.count(b"\n")), (1, b"", 1), err)
@@ -265,6 +280,12 @@ class Installed(unittest.TestCase):
     def test_transfer_of_a_sheet(self):
         status, out, err = shell('"$P/bin/trenailer" calc "$ROOT/examples/transfer.txt"')
         self.assertEqual((status, out.splitlines()[-1], err), (0, b"0 1 00 00 0A 00 00", b""))
+
+    def test_mended_edition_of_a_sheet(self):
+        status, out, err = shell('"$P/bin/trenailer" calc "$ROOT/examples/mended.txt"')
+        lines = out.splitlines()
+        self.assertEqual((status, lines[2], lines[5], lines[6], lines[-2], lines[-1], err),
+                         (0, b"0 1 7D 4C CC CC CD", b"0 2 91 80 00 00 00", b"0 2 91 80 00 00 00", b"0 3 00 FF 00 00 00", b"3 3 00 FF 00 00 00", b""))
 
     def test_header_in_other_languages(self):
         for compiler, words in (("cc", "-std=c99 -xc"), ("c++", "-std=c++11 -xc++")):
