@@ -43,10 +43,11 @@ fn next_number(number: u64, complained: usize) -> u64 {
 
 // A whole line.
 fn end_line(stack: &mut [u8], line: &[u8], at: Place, terminal: bool, returned: bool) -> Place {
+    let edition = at.edition;
     let mut out = [0u8; 64];
     let mut err = [0u8; 256];
     let done = reply::answer_line(
-        at.edition,
+        edition,
         stack,
         at.depth,
         at.going,
@@ -56,10 +57,11 @@ fn end_line(stack: &mut [u8], line: &[u8], at: Place, terminal: bool, returned: 
         &mut out,
         &mut err,
     );
+    let after = done.edition;
     let written = write(text::first(&out, done.out));
     io::write_all(STDERR_FILENO, text::first(&err, done.err));
     Place {
-        edition: done.edition,
+        edition: after,
         depth: done.depth,
         held: 0,
         number: next_number(at.number, done.err),
@@ -78,12 +80,13 @@ fn both(a: bool, b: bool) -> bool {
 }
 
 fn take_byte(stack: &mut [u8], line: &mut [u8], at: Place, terminal: bool, byte: u8) -> Place {
+    let edition = at.edition;
     let taken = lines::take(line, at.held, at.returned, byte);
     if taken.ended {
         return end_line(stack, line, at, terminal, taken.returned);
     }
     Place {
-        edition: at.edition,
+        edition,
         depth: at.depth,
         held: taken.held,
         number: at.number,
@@ -106,6 +109,7 @@ fn take_bytes(stack: &mut [u8], line: &mut [u8], at: Place, terminal: bool, byte
 
 // One read. What is held of a line when the input can't be read is no line.
 fn read_some(stack: &mut [u8], line: &mut [u8], at: Place, terminal: bool) -> Place {
+    let edition = at.edition;
     let mut bytes = io::buffer();
     let got = libc::read(STDIN_FILENO, &mut bytes);
     if got < 0 {
@@ -113,7 +117,7 @@ fn read_some(stack: &mut [u8], line: &mut [u8], at: Place, terminal: bool) -> Pl
     }
     if got <= 0 {
         return Place {
-            edition: at.edition,
+            edition,
             depth: at.depth,
             held: at.held,
             number: at.number,
@@ -158,8 +162,9 @@ fn turns_left(turns: u64, going: bool) -> u64
 
 pub fn follow(stack: &mut [u8], line: &mut [u8]) {
     let terminal = libc::isatty(STDIN_FILENO) == 1;
+    let meant = edition::unnamed();
     let mut at = Place {
-        edition: edition::unnamed(),
+        edition: meant,
         depth: 0,
         held: 0,
         number: 1,

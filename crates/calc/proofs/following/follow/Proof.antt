@@ -24,6 +24,7 @@ follow-spec =
     Inv-loop
     μ-loop
     (λ c κs. tt)
+    (λ c κs. tt)
     (λ c. (refl, refl))
     (λ c κs. tt)
     (λ c κs. tt)
