@@ -1,7 +1,6 @@
 -- The two editions' sums beside each other: the mended one's is the shipped one's, with -65,536 as a full number where that is odd. So it is never odd.
-use Prim.Native.Nat.{ℕ, suc, _+_, _*_, _-_, _^_, _/_, _%_, _≤_, _<_}
+use Prim.Native.Nat.{ℕ, suc, _+_, _*_, _^_, _/_, _%_, _≤_, _<_}
 use mathlib.Core.Path.{_≡_, refl, sym, _∙_, ap}
-use mathlib.Core.Logic.{_⊎_, inl, inr}
 use mathlib.Core.Bool.{Bool, true, false, cond, and-eq-true-iff}
 use native.Mathlib.Omega.{arith}
 use borrow.Author.Tests.{leb-true, leb-false, eqb-true}
@@ -17,7 +16,7 @@ use Rattle.number.specs.Negate.{negated}
 use Rattle.ending.specs.declared.answer.Answer.{Answer}
 use Rattle.ending.specs.declared.answer.Answer.the-variants.{Done, TooBig}
 use Rattle.ending.specs.Ends.{ZeroOrFull, ended-zero-or-full}
-use Rattle.addition.specs.Addition.{storedShort, shortSum, minus65536, writtenShort, endedWhole, endedSum, wholeSum, larger, alignedSum, fullRoute, shortRoute, sumOf, differenceOf}
+use Rattle.addition.specs.Addition.{storedShort, shortSum, minus65536, writtenShort, endedWhole, endedSum, alignedSum, fullRoute, shortRoute, sumOf, differenceOf}
 
 -- what the mended edition has in the place of odd
 abbrev pub mended : Number → Number

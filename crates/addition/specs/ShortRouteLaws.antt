@@ -12,7 +12,7 @@ use Rattle.number.specs.declared.Number.{Number}
 use Rattle.number.specs.Number.{sign, low, complementOf, halves, storedOver}
 use Rattle.number.specs.Value.{shortValue}
 use Rattle.ending.specs.declared.answer.Answer.the-variants.{Done}
-use Rattle.addition.specs.Addition.{storedShort, shortSum, minus65536, writtenShort, fullRoute, shortRoute, sumOf}
+use Rattle.addition.specs.Addition.{storedShort, shortSum, writtenShort, fullRoute, shortRoute, sumOf}
 use Rattle.addition.specs.SignedLaws.{same-sign, above, below}
 
 -- a wrapped sum is below its first part exactly when it carried

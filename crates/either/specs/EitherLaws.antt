@@ -1,6 +1,6 @@
 -- Each way out of a literal's code in either edition, by what the shipped edition does. No public contract cites this file.
 use Prim.Native.Nat.{ℕ, _+_, _-_}
-use mathlib.Core.Path.{_≡_, refl, sym, _∙_, ap, ap₂}
+use mathlib.Core.Path.{_≡_, refl, sym, _∙_, ap}
 use mathlib.Core.Logic.{_⊎_, inl, inr}
 use mathlib.Core.Bool.{Bool, true, false, false≢true, cond, _||_, or-true}
 use mathlib.Core.List.{List}

@@ -1,6 +1,6 @@
 -- What the code does besides the shipped edition's: it refuses an odd operand, and writes -65,536 in the place of an odd answer. No public contract cites this file.
 use Prim.Native.Nat.{ℕ, _+_, _-_, _*_, _^_, _≤_}
-use mathlib.Core.Path.{_≡_, refl, sym, _∙_, ap, ap₂}
+use mathlib.Core.Path.{_≡_, refl, sym, _∙_, ap}
 use mathlib.Core.Bool.{Bool, true, false, false≢true, cond, _||_}
 use mathlib.Core.List.{List}
 use native.Mathlib.Omega.{arith}
@@ -16,7 +16,6 @@ use Rattle.addition.specs.MendedLaws.{mended}
 use Rattle.truncation.specs.Truncate.{taken65536}
 use Rattle.slots.specs.Slots.{numberIn, putIn}
 use Rattle.slots.specs.SlotFacts.{number-put, number-again, length-put}
-use Rattle.slots.specs.LimitLaws.{Within}
 use Rattle.slots.specs.Reach.{lacking, numberAt, putAt}
 use Rattle.slots.specs.ReachLaws.{has, enough, none-at, number-at, put-there, lacking-same}
 

@@ -6,7 +6,6 @@ use mathlib.Core.Bool.{Bool, true, false, cond}
 use native.Mathlib.Omega.{arith}
 use borrow.Author.Tests.{ltb-false, eqb-false}
 use lib.Dec.{ltb, eqb}
-use Rattle.number.specs.declared.Number.{Number}
 use Rattle.number.specs.Number.{zeros, fullOf}
 use Rattle.ending.specs.declared.answer.Answer.{Answer}
 use Rattle.ending.specs.declared.answer.Answer.the-variants.{Done, TooBig}

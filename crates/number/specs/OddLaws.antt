@@ -1,5 +1,5 @@
 -- Which numbers are odd, document 01's term: 00 FF 00 00 with any b5.
-use Prim.Native.Nat.{ℕ, _^_, _/_, _*_, _+_, _<_}
+use Prim.Native.Nat.{_^_, _/_, _*_, _<_}
 use mathlib.Core.Path.{_≡_, refl, sym, _∙_, ap}
 use mathlib.Core.Logic.{_⊎_, inl, inr}
 use mathlib.Core.Bool.{true, false, false≢true}
@@ -7,7 +7,7 @@ use native.Mathlib.Omega.{arith}
 use Rattle.number.specs.declared.Number.{Number}
 use Rattle.number.specs.declared.form.Form.{Form}
 use Rattle.number.specs.declared.form.Form.the-variants.{Full, Short, Odd, Malformed}
-use Rattle.number.specs.Number.{zeros, low, formOf, isOdd, odd}
+use Rattle.number.specs.Number.{zeros, formOf, isOdd, odd}
 use Rattle.number.specs.NumberLaws.{places}
 use Rattle.number.specs.FormLaws.{form-full, form-short, form-odd, form-bytes}
 

@@ -1,5 +1,5 @@
 -- Buffers of 64 and 256 bytes have room for all that a line writes: what stands in them is the answer and the complaint, whole.
-use Prim.Native.Nat.{ℕ, _-_, _≤_}
+use Prim.Native.Nat.{ℕ, _≤_}
 use mathlib.Core.Path.{_≡_}
 use mathlib.Core.Bool.{Bool, true, false}
 use mathlib.Core.List.{List, [], _∷_, _++_}

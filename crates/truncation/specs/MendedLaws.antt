@@ -1,40 +1,29 @@
 -- The two editions' truncation and int beside each other. Of a number that is not odd, the mended edition truncates as the shipped one does, with -65,536 as a
 -- full number where that leaves odd; and so does int, away from what the shipped one takes for -65,536.
-use Prim.Native.Nat.{ℕ, _+_, _*_, _-_, _^_, _/_, _%_, _≤_, _<_}
+use Prim.Native.Nat.{ℕ, _+_, _*_, _-_, _^_, _/_, _<_}
 use mathlib.Core.Path.{_≡_, refl, sym, _∙_, ap, ap₂}
 use mathlib.Core.Logic.{_⊎_, inl, inr}
 use mathlib.Core.Bool.{Bool, true, false, cond}
 use native.Mathlib.Nat.{eq-zero-or-pos}
 use native.Mathlib.Omega.{arith}
-use borrow.Author.Tests.{ne-eqb, eqb-true, eqb-false, ltb-true, ltb-false}
+use borrow.Author.Tests.{eqb-true, eqb-false, ltb-true, ltb-false}
 use lib.Dec.{ltb, eqb}
-use Rattle.edition.specs.declared.Edition.{Edition}
 use Rattle.edition.specs.declared.Edition.the-variants.{Shipped, Mended}
 use Rattle.number.specs.declared.Number.{Number}
-use Rattle.number.specs.Number.{odd, number, zeros, bytes, sign, mantissa, fullOf, complementOf, shortOf, passesZeroTest}
-use Rattle.number.specs.NumberLaws.{Bytes, not-true, upper, full-fails, some-fails}
-use Rattle.number.specs.FormLaws.{form-bytes}
-use Rattle.number.specs.OddLaws.{odd-full, odd-positive, odd-word, odd-other, odd-ended, odd-bytes}
+use Rattle.number.specs.Number.{odd, number, zeros, bytes, sign, mantissa, fullOf, passesZeroTest}
+use Rattle.number.specs.NumberLaws.{Bytes, full-fails, some-fails}
+use Rattle.number.specs.NotOdd.{short-not-odd}
+use Rattle.number.specs.OddLaws.{odd-full, odd-word, odd-ended, odd-bytes}
 use Rattle.ending.specs.declared.answer.Answer.{Answer}
 use Rattle.ending.specs.declared.answer.Answer.the-variants.{Done, TooBig}
 use Rattle.addition.specs.Addition.{minus65536, differenceOf}
 use Rattle.addition.specs.MendedLaws.{mended, mendedAnswer, mended-same, mended-odd, difference-mended}
-use Rattle.truncation.specs.Truncate.{taken65536, cleared, truncatedFull, truncated}
+use Rattle.truncation.specs.Truncate.{taken65536, cleared, truncated}
 use Rattle.truncation.specs.TruncateLaws.{taken-not, taken-never, taken-145, truncate-full, truncate-not-full, truncate-below-one, truncate-to-short, truncate-taken, truncate-cleared, truncate-whole}
 use Rattle.truncation.specs.BitLaws.{dropped, dropped-lt}
 use Rattle.truncation.specs.Int.{shortOne, stepDown, intOf}
 use Rattle.truncation.specs.IntLaws.{int-positive, int-steps}
 use Rattle.truncation.specs.StepLaws.{int-same, int-up}
-
--- a short number that is not zero is not odd
-short-not-odd : (s v : ℕ) → s < 2 → 0 < v → v < 2 ^ 16 → odd (shortOf s v) ≡ false
-short-not-odd s v h p l = go (eqb s 0)
-  where
-    go : (a : Bool) → odd (number 0 (cond a (bytes 0 0 (v % 256) (v / 256) 0 .word) (bytes 0 255 (complementOf v % 256) (complementOf v / 256) 0 .word))) ≡ false
-    go true = odd-positive _ refl (omega arith)
-    go false =
-        let c = complementOf v in
-        odd-other _ (λ e. omega (arith, upper 255 (c % 256) (c / 256) 0 (omega arith), e))
 
 module _ (x : Number) (b : Bytes x) where
   -- what is taken for -65,536, by its word
@@ -65,7 +54,7 @@ module _ (x : Number) (b : Bytes x) where
             let hi = ltb-true (x .b1) 145 j in
             let d = dropped (mantissa x) (160 - x .b1) (omega arith) (omega arith) (omega arith) in
             both _ (truncate-full Mended x f ∙ truncate-to-short Mended x lo hi) (truncate-full Shipped x f ∙ truncate-to-short Shipped x lo hi)
-            (short-not-odd (sign x) (mantissa x / 2 ^ (160 - x .b1)) (omega arith) (d .some) (dropped-lt (mantissa x) (160 - x .b1) (omega arith) (omega arith)))
+            (short-not-odd (sign x) (mantissa x / 2 ^ (160 - x .b1)) (d .some) (dropped-lt (mantissa x) (160 - x .b1) (omega arith) (omega arith)))
         full f false false true i j k =
             let lo = ltb-false (x .b1) 145 j in
             both _ (truncate-full Mended x f ∙ truncate-cleared Mended x lo (taken-never x) (ltb-true _ _ k)) (truncate-full Shipped x f ∙ truncate-cleared Shipped x lo t (ltb-true _ _ k)) (odd-full _ (omega arith))

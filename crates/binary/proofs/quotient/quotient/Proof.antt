@@ -1,7 +1,7 @@
 -- `quotient` meets its contract: the answer is the quotient of the numbers re-stacked.
 use borrow.Author.Needs.{needs}
 use Prim.Native.Nat.{ℕ}
-use mathlib.Core.Path.{_≡_, refl, sym, _∙_, ap, ap₂}
+use mathlib.Core.Path.{refl, sym, _∙_, ap, ap₂}
 use Rattle.edition.specs.declared.Edition.the-variants.{Shipped}
 use Rattle.number.specs.Operand.{packed-byte}
 use Rattle.division.specs.Division.{quotientOf, restackedQuotient}

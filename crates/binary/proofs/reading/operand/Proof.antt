@@ -1,5 +1,5 @@
 -- `operand` meets its contract: a full number as it is, and any other by its b2 and its low half.
-use mathlib.Core.Path.{_≡_, sym, _∙_, ap₂, subst}
+use mathlib.Core.Path.{sym, _∙_, ap₂, subst}
 use mathlib.Core.Bool.{false}
 use native.Mathlib.Nat.{mod-eq-of-lt}
 use native.Mathlib.Omega.{arith}

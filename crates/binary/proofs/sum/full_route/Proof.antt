@@ -3,11 +3,9 @@ use borrow.Author.Needs.{needs}
 use Prim.Native.Nat.{ℕ}
 use mathlib.Core.Path.{_≡_, refl, sym, _∙_, ap, ap₂}
 use mathlib.Core.Logic.{inl}
-use mathlib.Core.Bool.{false}
 use denote.Ref.{now}
 use Rattle.edition.specs.declared.Edition.the-variants.{Shipped}
 use Rattle.number.specs.Number.{malformed}
-use Rattle.addition.specs.Addition.{secondOf}
 use Rattle.slots.specs.Reach.{numberAt}
 use Rattle.literals.specs.Operate.{outcome, operateOf}
 use Rattle.literals.specs.WayLaws.{two-malformed}

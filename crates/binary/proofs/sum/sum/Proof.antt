@@ -8,11 +8,11 @@ use native.Mathlib.Omega.{arith}
 use denote.Ref.{now}
 use Rattle.edition.specs.declared.Edition.the-variants.{Shipped}
 use Rattle.addition.specs.declared.short.Short.{Short}
-use Rattle.slots.specs.Reach.{lacking, refusalOf, numberAt, putAt}
+use Rattle.slots.specs.Reach.{lacking, refusalOf, numberAt}
 use Rattle.slots.specs.ReachLaws.{has}
-use Rattle.literals.specs.Operate.{outcome, operateOf}
+use Rattle.literals.specs.Operate.{outcome}
 use Rattle.literals.specs.WayLaws.{two-lacking, two-malformed, two-done}
-use Rattle.binary.specs.Sum.{flips, literalOf, totalOf, sum-line, Says, route-says}
+use Rattle.binary.specs.Sum.{flips, totalOf, sum-line, Says, route-says}
 use Rattle.binary.proofs.sum.sum.Statement.{statement}
 use Rattle.binary.proofs.sum.sum.Tie as tie
 

@@ -1,7 +1,7 @@
 -- `division` meets its contract: each return is a law of `restackedQuotient`. Where neither number is zero, the laws close with the digits of the 33
 -- rounds.
-use Prim.Native.Nat.{ℕ, _+_, _*_, _-_, _^_, _/_, _%_}
-use mathlib.Core.Path.{_≡_, refl, sym, _∙_, ap, ap₂}
+use Prim.Native.Nat.{ℕ, _+_, _-_, _^_, _/_, _%_}
+use mathlib.Core.Path.{_≡_, refl, sym, _∙_, ap₂}
 use native.Mathlib.Omega.{arith}
 use Rattle.number.specs.Number.{sign, mantissa, fullOf}
 use Rattle.ending.specs.Ending.{loose, closed}

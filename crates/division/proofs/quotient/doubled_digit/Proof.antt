@@ -1,6 +1,6 @@
 -- `doubled_digit` meets its contract: what is left after 33 rounds is the remainder, and the digit is 1 where twice that is the divisor or more.
 use Prim.Native.Nat.{_+_, _*_, _^_, _%_}
-use mathlib.Core.Path.{_≡_, sym}
+use mathlib.Core.Path.{sym}
 use native.Mathlib.Nat.{mod-lt}
 use native.Mathlib.Omega.{arith}
 use Rattle.division.specs.Rounds.{rounds33}

@@ -1,6 +1,6 @@
 -- `odd_at` meets its contract: a full number is not odd, and of any other b2, b3 and b4 decide.
 use Prim.Native.Nat.{_^_, _*_, _/_}
-use mathlib.Core.Path.{_≡_, refl, sym, _∙_, ap}
+use mathlib.Core.Path.{_≡_, sym, _∙_, ap}
 use mathlib.Core.Bool.{Bool, true, false}
 use lib.Dec.{eqb}
 use borrow.Author.Tests.{eqb-true, eqb-false}

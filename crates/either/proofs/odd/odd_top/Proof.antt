@@ -1,6 +1,6 @@
 -- `odd_top` meets its contract: the mended edition minds.
 use borrow.Author.Needs.{needs}
-use mathlib.Core.Path.{_≡_, sym, _∙_, ap}
+use mathlib.Core.Path.{sym, _∙_, ap}
 use Rattle.edition.specs.declared.Edition.{Edition}
 use Rattle.number.specs.declared.Number.{Number}
 use Rattle.slots.specs.Reach.{numberAt}

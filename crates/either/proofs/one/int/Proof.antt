@@ -1,6 +1,6 @@
 -- `int` meets its contract: an odd operand is refused, and the answer is the shipped edition's, mended, away from what that takes for -65,536.
 use borrow.Author.Needs.{needs}
-use mathlib.Core.Path.{_≡_, refl, sym, _∙_, ap}
+use mathlib.Core.Path.{refl, sym, _∙_, ap}
 use native.Mathlib.Omega.{arith}
 use Rattle.edition.specs.declared.Edition.the-variants.{Shipped}
 use Rattle.truncation.specs.Int.{intOf}

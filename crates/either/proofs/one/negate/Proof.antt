@@ -1,6 +1,6 @@
 -- `negate` meets its contract: an odd operand is refused, and negation is the same in both editions.
 use borrow.Author.Needs.{needs}
-use mathlib.Core.Path.{_≡_, refl, sym, _∙_}
+use mathlib.Core.Path.{refl, sym, _∙_}
 use Rattle.number.specs.Negate.{negated}
 use Rattle.ending.specs.declared.answer.Answer.the-variants.{Done}
 use Rattle.literals.specs.Literals.{rowOf}

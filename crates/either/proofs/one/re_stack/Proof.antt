@@ -1,6 +1,6 @@
 -- `re_stack` meets its contract: an odd operand is refused, and re-stacking is the same in both editions.
 use borrow.Author.Needs.{needs}
-use mathlib.Core.Path.{_≡_, refl, sym, _∙_}
+use mathlib.Core.Path.{refl, sym, _∙_}
 use Rattle.number.specs.Restack.{restacked}
 use Rattle.ending.specs.declared.answer.Answer.the-variants.{Done}
 use Rattle.literals.specs.Literals.{rowOf}

@@ -1,6 +1,6 @@
 -- `taken_top` meets its contract: the mended edition has no such test.
 use borrow.Author.Needs.{needs}
-use mathlib.Core.Path.{_≡_, sym, _∙_, ap, ap₂}
+use mathlib.Core.Path.{sym, _∙_, ap, ap₂}
 use Rattle.edition.specs.declared.Edition.{Edition}
 use Rattle.edition.specs.declared.Edition.the-variants.{Shipped}
 use Rattle.number.specs.declared.Number.{Number}

@@ -1,6 +1,6 @@
 -- `truncate` meets its contract: an odd operand is refused, and the answer is the shipped edition's, mended.
 use borrow.Author.Needs.{needs}
-use mathlib.Core.Path.{_≡_, refl, sym, _∙_, ap}
+use mathlib.Core.Path.{refl, sym, _∙_, ap}
 use native.Mathlib.Omega.{arith}
 use Rattle.edition.specs.declared.Edition.the-variants.{Shipped}
 use Rattle.ending.specs.declared.answer.Answer.the-variants.{Done}

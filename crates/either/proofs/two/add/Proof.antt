@@ -1,6 +1,6 @@
 -- `add` meets its contract: an odd operand is refused, and the answer is the shipped edition's, mended.
 use borrow.Author.Needs.{needs}
-use mathlib.Core.Path.{_≡_, refl, sym, _∙_}
+use mathlib.Core.Path.{refl, sym, _∙_}
 use Rattle.addition.specs.Addition.{sumOf}
 use Rattle.addition.specs.MendedLaws.{sum-mended}
 use Rattle.literals.specs.Literals.{rowOf}

@@ -6,11 +6,10 @@ use mathlib.Core.Bool.{false, _||_, or-true}
 use mathlib.Core.List.{List}
 use native.Mathlib.Omega.{arith}
 use Rattle.edition.specs.declared.Edition.{Edition}
-use Rattle.number.specs.declared.Number.{Number}
 use Rattle.number.specs.Number.{malformed}
 use Rattle.number.specs.Operand.{packed-byte}
 use Rattle.division.specs.Division.{quotientOf, restackedQuotient}
-use Rattle.slots.specs.Reach.{lacking, numberAt, putAt}
+use Rattle.slots.specs.Reach.{lacking, numberAt}
 use Rattle.slots.specs.ReachLaws.{has}
 use Rattle.literals.specs.Literals.{rowOf}
 use Rattle.literals.specs.Reports.{malformedIn}

@@ -1,6 +1,6 @@
 -- `multiply` meets its contract: an odd operand is refused, and a product is the same in both editions.
 use borrow.Author.Needs.{needs}
-use mathlib.Core.Path.{_≡_, refl, sym, _∙_}
+use mathlib.Core.Path.{refl, sym, _∙_}
 use Rattle.multiplication.specs.Multiplication.{productOf}
 use Rattle.literals.specs.Literals.{rowOf}
 use Rattle.either.specs.EitherLaws.{pair-refused, pair-same}

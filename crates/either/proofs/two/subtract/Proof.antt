@@ -1,6 +1,6 @@
 -- `subtract` meets its contract: an odd operand is refused, and the answer is the shipped edition's, mended.
 use borrow.Author.Needs.{needs}
-use mathlib.Core.Path.{_≡_, refl, sym, _∙_}
+use mathlib.Core.Path.{refl, sym, _∙_}
 use Rattle.addition.specs.Addition.{differenceOf}
 use Rattle.addition.specs.MendedLaws.{difference-mended}
 use Rattle.literals.specs.Literals.{rowOf}

@@ -1,6 +1,5 @@
 -- `said` meets its contract: the tests are the definition's.
-use mathlib.Core.Path.{refl, sym, _∙_}
-use native.Mathlib.Omega.{arith}
+use mathlib.Core.Path.{refl}
 use borrow.Author.Tests.{lt-ltb, le-ltb, eq-eqb, ne-eqb}
 use Rattle.sheet.specs.Line.{said}
 use Rattle.sheet.proofs.reading.said.Statement.{statement}

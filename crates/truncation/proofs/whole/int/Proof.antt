@@ -1,5 +1,5 @@
 -- `int` meets its contract: the tests that led to each `return` are the premises of a law of `intOf`.
-use mathlib.Core.Path.{_≡_, sym, _∙_, ap}
+use mathlib.Core.Path.{sym, _∙_, ap}
 use native.Mathlib.Omega.{arith}
 use Rattle.edition.specs.declared.Edition.the-variants.{Shipped}
 use Rattle.ending.specs.declared.answer.Answer.the-variants.{Done}
