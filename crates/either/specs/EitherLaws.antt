@@ -20,7 +20,7 @@ use Rattle.literals.specs.Literals.{one, two, row, rowOf}
 use Rattle.literals.specs.Reports.{malformedIn}
 use Rattle.literals.specs.Operate.{outcome, operateOf}
 use Rattle.literals.specs.WayLaws.{one-lacking, one-malformed, one-done, two-lacking, two-malformed, two-too-big, two-done}
-use Rattle.either.specs.Mending.{oddIn, oddPair, mendedTop, odd-there, mended-put}
+use Rattle.odd.specs.Mending.{oddIn, oddPair, mendedTop, odd-there, mended-put}
 
 -- Of operands that are not odd, both editions refuse a literal with one report, or both store a number with k above it: the shipped one n, the mended one m.
 pub record Refuses (s : List ℕ) (d l : ℕ) : Type 0 where

@@ -13,6 +13,7 @@ use Rattle.number.specs.declared.Number.{Number}
 use Rattle.number.specs.Number.{number}
 use Rattle.number.specs.FormLaws.{malformed-full}
 use Rattle.number.specs.OddLaws.{odd-full}
+use Rattle.truncation.specs.Truncate.{taken65536}
 use Rattle.truncation.specs.TruncateLaws.{taken-145}
 use Rattle.truncation.specs.Int.{intOf}
 use Rattle.truncation.specs.MendedLaws.{int-exact, int-below}
@@ -22,7 +23,18 @@ use Rattle.literals.specs.Literals.{rowOf}
 use Rattle.literals.specs.Reports.{malformedIn}
 use Rattle.literals.specs.Operate.{outcome, operateOf}
 use Rattle.literals.specs.WayLaws.{one-done, one-kept}
-use Rattle.either.specs.Mending.{takenIn, intTop}
+
+-- what the shipped edition takes for -65,536, where the edition has no such test
+abbrev pub takenIn : Edition → Number → Bool
+takenIn Shipped x = false
+takenIn Mended x = taken65536 Shipped x
+
+pub tests : {ed : Edition} (x : Number) → ed ≡ Mended → takenIn ed x ≡ taken65536 Shipped x
+tests x e = ap (λ (v : Edition). takenIn v x) e
+
+-- the stack with int of that on top: a part below one is cut off, or none is
+unfoldable pub intTop : List ℕ → ℕ → List ℕ
+intTop s d = cond (eqb (numberAt s d 0 .word) (2 ^ 31)) s (putAt s d 0 (number 145 (2 ^ 31 + 2 ^ 15)))
 
 pub int-taken : (s : List ℕ) (d : ℕ) → ((j : ℕ) → getD s j 0 < 256) → (ed : Edition) → takenIn ed (numberAt s d 0) ≡ true → operateOf ed s d 39 ≡ (outcome 0 d, intTop s d)
 unfolding rowOf intTop

@@ -1,3 +1,2 @@
-pub mod Mending
 pub mod EitherLaws
 pub mod IntLaws

@@ -1,11 +1,11 @@
 // Negate, int, truncate and re-stack.
-use crate::odd::mend_top;
-use crate::odd::odd_top;
 use edition::Edition;
 use number::Number;
+use odd::mend_top;
+use odd::odd_top;
 ghost use mathlib.Core.Path.{_≡_};
 ghost use Rattle.slots.specs.Reach.{numberAt};
-ghost use Rattle.either.specs.Mending.{takenIn, intTop};
+ghost use Rattle.either.specs.IntLaws.{takenIn, intTop};
 ghost use Rattle.literals.specs.Operate.{outcome, operateOf};
 
 pub fn negate(edition: Edition, stack: &mut [u8], depth: &usize) -> u8

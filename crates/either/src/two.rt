@@ -1,9 +1,9 @@
 // Subtract, multiply, divide and add.
-use crate::odd::mend_top;
-use crate::odd::odd_pair;
 use edition::Edition;
 use ending::Answer;
 use literals::table;
+use odd::mend_top;
+use odd::odd_pair;
 ghost use mathlib.Core.Path.{_≡_};
 ghost use Rattle.literals.specs.Operate.{outcome, operateOf};
 

@@ -11,9 +11,9 @@ use Rattle.number.specs.declared.Number.{Number}
 use Rattle.slots.specs.Reach.{numberAt}
 use Rattle.slots.specs.ReachLaws.{number-bytes}
 use Rattle.literals.specs.Literals.{rowOf}
-use Rattle.either.specs.Mending.{minds, tests}
+use Rattle.odd.specs.Mending.{minds}
 use Rattle.either.specs.EitherLaws.{Follows, leaves, top-refused, top-follows}
-use Rattle.either.specs.IntLaws.{int-taken}
+use Rattle.either.specs.IntLaws.{tests, int-taken}
 use Rattle.either.proofs.one.int.Statement.{statement}
 use Rattle.either.proofs.one.int.Tie as tie
 

@@ -6,7 +6,7 @@ use mathlib.Core.List.{List}
 use borrow.Author.Tests.{eq-eqb, ne-eqb}
 use Rattle.number.specs.Number.{number}
 use Rattle.slots.specs.Reach.{numberAt, putAt}
-use Rattle.either.specs.Mending.{intTop}
+use Rattle.either.specs.IntLaws.{intTop}
 use Rattle.either.proofs.one.int_top.Statement.{statement}
 use Rattle.either.proofs.one.int_top.Tie as tie
 

@@ -7,7 +7,7 @@ use Rattle.number.specs.declared.Number.{Number}
 use Rattle.number.specs.Number.{number}
 use Rattle.truncation.specs.Truncate.{taken65536}
 use Rattle.slots.specs.Reach.{numberAt}
-use Rattle.either.specs.Mending.{takenIn}
+use Rattle.either.specs.IntLaws.{takenIn}
 use Rattle.either.proofs.one.taken_top.Statement.{statement}
 use Rattle.either.proofs.one.taken_top.Tie as tie
 

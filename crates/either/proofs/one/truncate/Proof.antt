@@ -9,7 +9,7 @@ use Rattle.truncation.specs.MendedLaws.{truncate-mended}
 use Rattle.slots.specs.Reach.{numberAt}
 use Rattle.slots.specs.ReachLaws.{number-bytes}
 use Rattle.literals.specs.Literals.{rowOf}
-use Rattle.either.specs.Mending.{minds}
+use Rattle.odd.specs.Mending.{minds}
 use Rattle.either.specs.EitherLaws.{Follows, leaves, top-refused, top-follows}
 use Rattle.either.proofs.one.truncate.Statement.{statement}
 use Rattle.either.proofs.one.truncate.Tie as tie

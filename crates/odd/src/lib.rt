@@ -3,7 +3,7 @@ use edition::Edition;
 ghost use mathlib.Core.Path.{_≡_};
 ghost use Rattle.number.specs.Number.{odd};
 ghost use Rattle.slots.specs.Reach.{numberAt};
-ghost use Rattle.either.specs.Mending.{oddIn, oddPair, mendedTop};
+ghost use Rattle.odd.specs.Mending.{oddIn, oddPair, mendedTop};
 
 fn odd_at(stack: &[u8], depth: usize, above: u8) -> bool
     ensures { λ r. ⌜ r ≡ odd (numberAt (now (stack .entry)) depth above) ⌝ }
@@ -14,7 +14,7 @@ fn odd_at(stack: &[u8], depth: usize, above: u8) -> bool
     slots::word_at(stack, depth, above) / 256 == 16711680
 }
 
-pub(crate) fn odd_top(edition: Edition, stack: &[u8], depth: usize) -> bool
+pub fn odd_top(edition: Edition, stack: &[u8], depth: usize) -> bool
     ensures { λ r. ⌜ r ≡ oddIn edition (numberAt (now (stack .entry)) depth 0) ⌝ }
 {
     match edition {
@@ -24,7 +24,7 @@ pub(crate) fn odd_top(edition: Edition, stack: &[u8], depth: usize) -> bool
 }
 
 // With fewer than two numbers it is report 2 that refuses.
-pub(crate) fn odd_pair(edition: Edition, stack: &[u8], depth: usize) -> bool
+pub fn odd_pair(edition: Edition, stack: &[u8], depth: usize) -> bool
     ensures { λ r. ⌜ r ≡ oddPair edition (now (stack .entry)) depth ⌝ }
 {
     match edition {
@@ -41,7 +41,7 @@ pub(crate) fn odd_pair(edition: Edition, stack: &[u8], depth: usize) -> bool
     }
 }
 
-pub(crate) fn mend_top(edition: Edition, stack: &mut [u8], depth: usize)
+pub fn mend_top(edition: Edition, stack: &mut [u8], depth: usize)
     ensures { λ _. ⌜ now (stack .exit) ≡ mendedTop edition (now (stack .entry)) depth ⌝ }
 {
     if odd_top(edition, stack, depth) {

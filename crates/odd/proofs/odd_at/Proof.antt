@@ -7,8 +7,8 @@ use borrow.Author.Tests.{eqb-true, eqb-false}
 use Rattle.number.specs.declared.Number.{Number}
 use Rattle.number.specs.Number.{odd}
 use Rattle.number.specs.OddLaws.{odd-full, odd-word, odd-other}
-use Rattle.either.proofs.odd.odd_at.Statement.{statement}
-use Rattle.either.proofs.odd.odd_at.Tie as tie
+use Rattle.odd.proofs.odd_at.Statement.{statement}
+use Rattle.odd.proofs.odd_at.Tie as tie
 
 by-word : (x : Number) → x .b1 ≡ 0 → (t : Bool) → eqb (x .word / 2 ^ 8) (255 * 2 ^ 16) ≡ t → t ≡ odd x
 by-word x h true e = sym (odd-word x h (eqb-true _ _ e))

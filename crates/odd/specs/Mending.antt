@@ -1,19 +1,17 @@
--- What the code does besides the shipped edition's: it refuses an odd operand, and writes -65,536 in the place of an odd answer. No public contract cites this file.
-use Prim.Native.Nat.{ℕ, _+_, _-_, _*_, _^_, _≤_}
+-- Odd among a literal's operands, where the edition minds, and -65,536 in the place of an odd answer.
+use Prim.Native.Nat.{ℕ, _+_, _-_, _*_, _≤_}
 use mathlib.Core.Path.{_≡_, refl, sym, _∙_, ap}
 use mathlib.Core.Bool.{Bool, true, false, false≢true, cond, _||_}
 use mathlib.Core.List.{List}
 use native.Mathlib.Omega.{arith}
-use lib.Dec.{eqb}
 use lib.ListN.{length}
 use Rattle.edition.specs.declared.Edition.{Edition}
 use Rattle.edition.specs.declared.Edition.the-variants.{Shipped, Mended}
 use Rattle.number.specs.declared.Number.{Number}
-use Rattle.number.specs.Number.{number, zeros, odd}
+use Rattle.number.specs.Number.{zeros, odd}
 use Rattle.number.specs.OddLaws.{odd-positive}
 use Rattle.addition.specs.Addition.{minus65536}
 use Rattle.addition.specs.MendedLaws.{mended}
-use Rattle.truncation.specs.Truncate.{taken65536}
 use Rattle.slots.specs.Slots.{numberIn, putIn}
 use Rattle.slots.specs.SlotFacts.{number-put, number-again, length-put}
 use Rattle.slots.specs.Reach.{lacking, numberAt, putAt}
@@ -26,18 +24,6 @@ oddIn Mended x = odd x
 
 pub minds : {ed : Edition} (x : Number) → ed ≡ Mended → oddIn ed x ≡ odd x
 minds x e = ap (λ (v : Edition). oddIn v x) e
-
--- what the shipped edition takes for -65,536, where the edition has no such test
-abbrev pub takenIn : Edition → Number → Bool
-takenIn Shipped x = false
-takenIn Mended x = taken65536 Shipped x
-
-pub tests : {ed : Edition} (x : Number) → ed ≡ Mended → takenIn ed x ≡ taken65536 Shipped x
-tests x e = ap (λ (v : Edition). takenIn v x) e
-
--- the stack with int of that on top: a part below one is cut off, or none is
-unfoldable pub intTop : List ℕ → ℕ → List ℕ
-intTop s d = cond (eqb (numberAt s d 0 .word) (2 ^ 31)) s (putAt s d 0 (number 145 (2 ^ 31 + 2 ^ 15)))
 
 -- among the two on top, where there are two
 unfoldable pub oddPair : Edition → List ℕ → ℕ → Bool

@@ -4,9 +4,9 @@ use mathlib.Core.Path.{sym, _∙_, ap}
 use Rattle.edition.specs.declared.Edition.{Edition}
 use Rattle.number.specs.declared.Number.{Number}
 use Rattle.slots.specs.Reach.{numberAt}
-use Rattle.either.specs.Mending.{oddIn, minds}
-use Rattle.either.proofs.odd.odd_top.Statement.{statement}
-use Rattle.either.proofs.odd.odd_top.Tie as tie
+use Rattle.odd.specs.Mending.{oddIn, minds}
+use Rattle.odd.proofs.odd_top.Statement.{statement}
+use Rattle.odd.proofs.odd_top.Tie as tie
 
 abbrev top : tie.After-shared-slice-known → Number
 top c = numberAt (c .before .args .stack .now) (c .before .args .depth) 0

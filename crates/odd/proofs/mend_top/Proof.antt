@@ -8,9 +8,9 @@ use Rattle.edition.specs.declared.Edition.{Edition}
 use Rattle.edition.specs.declared.Edition.the-variants.{Shipped, Mended}
 use Rattle.addition.specs.Addition.{minus65536}
 use Rattle.slots.specs.Reach.{numberAt, putAt}
-use Rattle.either.specs.Mending.{oddIn, mendedTop}
-use Rattle.either.proofs.odd.mend_top.Statement.{statement}
-use Rattle.either.proofs.odd.mend_top.Tie as tie
+use Rattle.odd.specs.Mending.{oddIn, mendedTop}
+use Rattle.odd.proofs.mend_top.Statement.{statement}
+use Rattle.odd.proofs.mend_top.Tie as tie
 
 written : (ed : Edition) (s : List ℕ) (d : ℕ) → oddIn ed (numberAt s d 0) ≡ true → putAt s d 0 minus65536 ≡ mendedTop ed s d
 written Shipped s d h = absurd (false≢true h)

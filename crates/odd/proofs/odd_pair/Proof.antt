@@ -8,9 +8,9 @@ use Rattle.edition.specs.declared.Edition.{Edition}
 use Rattle.edition.specs.declared.Edition.the-variants.{Shipped, Mended}
 use Rattle.number.specs.Number.{odd}
 use Rattle.slots.specs.Reach.{lacking, numberAt}
-use Rattle.either.specs.Mending.{oddIn, oddPair}
-use Rattle.either.proofs.odd.odd_pair.Statement.{statement}
-use Rattle.either.proofs.odd.odd_pair.Tie as tie
+use Rattle.odd.specs.Mending.{oddIn, oddPair}
+use Rattle.odd.proofs.odd_pair.Statement.{statement}
+use Rattle.odd.proofs.odd_pair.Tie as tie
 
 module _ (ed : Edition) (s : List ℕ) (d : ℕ) where
   few : true ≡ lacking s d 2 → false ≡ oddPair ed s d
