@@ -1,6 +1,5 @@
 // The calculator of the ZX Spectrum, on a stack that the caller lends: any bytes, any depth, any literals.
 mod named;
-mod operation;
 mod outcome;
 mod running;
 

@@ -5,8 +5,8 @@ use Rattle.literals.specs.Literals.{rowOf, operationOf}
 use Rattle.literals.specs.Reports.{notInTable}
 use Rattle.literals.specs.Operate.{operateOf}
 use Rattle.literals.specs.OperateLaws.{in-no-row}
-use Rattle.calculator.proofs.operation.shipped.Statement.{statement}
-use Rattle.calculator.proofs.operation.shipped.Tie as tie
+use Rattle.operation.proofs.shipped.Statement.{statement}
+use Rattle.operation.proofs.shipped.Tie as tie
 
 returns-13 : tie.Need-returns-13
 returns-13 c =

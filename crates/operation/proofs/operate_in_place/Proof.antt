@@ -2,8 +2,8 @@
 use borrow.Author.Needs.{needs}
 use mathlib.Core.Path.{sym, _∙_}
 use Rattle.literals.specs.OperateLaws.{operate-named}
-use Rattle.calculator.proofs.operation.operate_in_place.Statement.{statement}
-use Rattle.calculator.proofs.operation.operate_in_place.Tie as tie
+use Rattle.operation.proofs.operate_in_place.Statement.{statement}
+use Rattle.operation.proofs.operate_in_place.Tie as tie
 
 pub operate-in-place-spec : {M : Type 1} → statement M
 operate-in-place-spec =
