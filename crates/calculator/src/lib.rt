@@ -8,6 +8,7 @@ pub use display::cell;
 pub use edition::Edition;
 pub use moving::push;
 pub use named::run_in;
+pub use number::leading_zeros;
 pub use operation::operate;
 pub use operation::operate_in;
 pub use operation::operate_in_place;

@@ -1,10 +1,10 @@
 -- A product as the code takes it: of whole numbers that need not be made normal first. It has so many places to its top bit, of 64, and the exponent is lower by
 -- as many.
-use Prim.Native.Nat.{ℕ, suc, _+_, _*_, _-_, _^_, _/_, _%_, _≤_, _<_}
+use Prim.Native.Nat.{ℕ, _+_, _*_, _-_, _^_, _/_, _%_, _≤_, _<_}
 use mathlib.Core.Path.{_≡_, refl, sym, _∙_, ap, ap₂}
 use mathlib.Core.Logic.{_⊎_, inl, inr}
 use mathlib.Core.Bool.{Bool, true, false, cond}
-use native.Mathlib.Nat.{le-trans, mul-assoc, mul-le-mul, mul-le-mul-left, pow-suc, eq-zero-or-pos, mul-zero}
+use native.Mathlib.Nat.{le-trans, mul-assoc, mul-le-mul, mul-le-mul-left, eq-zero-or-pos, mul-zero}
 use native.Mathlib.Omega.{arith}
 use borrow.Author.Tests.{eq-eqb, ne-eqb, leb-true, leb-false}
 use lib.Dec.{leb, eqb}
@@ -13,9 +13,10 @@ use lib.Pow.{pow-add, pow-mono, pow-pos}
 use Rattle.number.specs.declared.Number.{Number}
 use Rattle.number.specs.Number.{zeros, sign, mantissa, shortMagnitude}
 use Rattle.number.specs.NumberLaws.{Bytes, magnitude-lt}
+use Rattle.number.specs.LeadingZeros.{top-set, places-are}
 use Rattle.number.specs.Restack.{fullOfShort, restacked}
 use Rattle.number.specs.RestackLaws.{restack-full, restack-some, restack-zero}
-use Rattle.number.specs.RestackValue.{top-set, full-of-short}
+use Rattle.number.specs.RestackValue.{full-of-short}
 use Rattle.ending.specs.declared.answer.Answer.{Answer}
 use Rattle.ending.specs.declared.answer.Answer.the-variants.{Done}
 use Rattle.division.specs.Demand3.{nearest}
@@ -39,20 +40,6 @@ module _ (s p e : ℕ) where
   pub at-some : (p ≡ 0 → ⊥) → (z : ℕ) → z ≡ leadingZeros 64 p → productAt s p e ≡ endedProduct s (roundedAt p z) (e + 128 - z)
   unfolding productAt
   at-some h z i = simp (ne-eqb p 0 h) (ap (λ (k : ℕ). endedProduct s (roundedAt p k) (e + 128 - k)) (sym i))
-
--- ---- the places to the top bit, of k
-
--- the zeros above it set it (`top-set`), and no other number of places does
-fewer : (k p a b : ℕ) → 2 ^ k ≤ p * 2 ^ a → p * 2 ^ b < 2 ^ suc k → ¬ (a < b)
-fewer k p a b l h g =
-    omega (arith, mul-le-mul-left p (pow-mono {i = suc a} {j = b} g), ap (λ (i : ℕ). p * i) (pow-suc 2 a), mul-assoc p (2 ^ a) 2, pow-suc 2 k)
-
-pub places-are : (k p a : ℕ) → 0 < p → p < 2 ^ suc k → 2 ^ k ≤ p * 2 ^ a → p * 2 ^ a < 2 ^ suc k → a ≡ leadingZeros (suc k) p
-places-are k p a h l lo hi =
-    let t = top-set k p h l in
-    let not-less = fewer k p a (leadingZeros (suc k) p) lo (t .1) in
-    let not-more = fewer k p (leadingZeros (suc k) p) a (t .0) hi in
-    omega arith
 
 -- ---- of two full numbers
 

@@ -10,15 +10,16 @@ use lib.Pow.{pow-add}
 use Rattle.number.specs.declared.Number.{Number}
 use Rattle.number.specs.Number.{number, zeros, sign, malformed, mantissa, shortMagnitude, shortOf}
 use Rattle.number.specs.NumberLaws.{magnitude-lt}
+use Rattle.number.specs.LeadingZeros.{top-set, places-are}
 use Rattle.number.specs.Restack.{fullOfShort, restacked}
 use Rattle.number.specs.RestackLaws.{restack-some}
-use Rattle.number.specs.RestackValue.{top-set, full-of-short}
+use Rattle.number.specs.RestackValue.{full-of-short}
 use Rattle.ending.specs.declared.answer.Answer.the-variants.{Done}
 use Rattle.ending.specs.Ending.{loose, closed}
 use Rattle.ending.specs.EndingLaws.{closed-stored}
 use Rattle.multiplication.specs.declared.product.Product.{Product}
 use Rattle.multiplication.specs.Multiplication.{shortProduct, signOfTwo, taken, restackedProduct, productOf, endedProduct}
-use Rattle.multiplication.specs.Places.{roundedAt, productAt, at-some, places-are, at-scaled, zeros-of, fills, at-short}
+use Rattle.multiplication.specs.Places.{roundedAt, productAt, at-some, at-scaled, zeros-of, fills, at-short}
 use Rattle.multiplication.specs.MultiplicationLaws.{product-short, product-beyond, ended-high}
 
 -- what the code answers of two numbers whose b1 is 0

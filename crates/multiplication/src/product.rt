@@ -52,7 +52,7 @@ pub fn short_product(b: u32, h: u16, c: u32, k: u16) -> Product
             word: number::short_word(sign as u8, v as u16),
         };
     }
-    let places = u32::leading_zeros(v);
+    let places = number::leading_zeros(v);
     Product {
         malformed: false,
         b1: (160 - places) as u8,

@@ -4,6 +4,7 @@ pub mod OddLaws
 pub mod NumberLaws
 pub mod Value
 pub mod ValueLaws
+pub mod LeadingZeros
 pub mod Restack
 pub mod RestackLaws
 pub mod RestackValue

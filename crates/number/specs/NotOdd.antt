@@ -16,7 +16,7 @@ use Rattle.number.specs.FormLaws.{FormBytes, form-bytes}
 use Rattle.number.specs.OddLaws.{odd-full, odd-positive, odd-other, odd-ended}
 use Rattle.number.specs.Restack.{fullOfShort, restacked}
 use Rattle.number.specs.RestackLaws.{restack-full, restack-zero, restack-some}
-use Rattle.number.specs.RestackValue.{top-set}
+use Rattle.number.specs.LeadingZeros.{top-set}
 use Rattle.number.specs.Negate.{negatedAs, negated}
 
 -- a short number from 1 to 65,535 away from zero

@@ -1,32 +1,20 @@
 -- Re-stacking keeps a short number's value, over whole numbers; and what a re-stacked number is made of.
-use Prim.Native.Nat.{ℕ, suc, _+_, _*_, _-_, _^_, _≤_, _<_}
-use mathlib.Core.Path.{_≡_, refl, sym, _∙_, ap, subst, subst⁻¹}
+use Prim.Native.Nat.{ℕ, _+_, _*_, _-_, _^_, _≤_, _<_}
+use mathlib.Core.Path.{_≡_, refl, sym, _∙_, ap, subst⁻¹}
 use mathlib.Core.Logic.{_⊎_, inl, inr}
-use native.Mathlib.Nat.{le-trans, le-of-eq, mul-assoc, mul-le-mul-right, eq-zero-or-pos, lt-of-lt-of-le}
+use native.Mathlib.Nat.{mul-assoc, eq-zero-or-pos, lt-of-lt-of-le}
 use native.Mathlib.Omega.{arith}
-use lib.Count.{leadingZeros, leading-top}
+use lib.Count.{leadingZeros}
 use lib.IntN.{ℤ, pos, _*ℤ_}
-use lib.Pow.{pow-add, shl-lt}
+use lib.Pow.{pow-add}
 use Rattle.number.specs.declared.Number.{Number}
 use Rattle.number.specs.Number.{sign, mantissa, fullOf, shortMagnitude, zeros}
 use Rattle.number.specs.NumberLaws.{Bytes, mantissa-full, sign-full, magnitude-lt}
 use Rattle.number.specs.Value.{signed, shortValue, fullValue}
 use Rattle.number.specs.ValueLaws.{short-value, signed-times}
+use Rattle.number.specs.LeadingZeros.{top-set}
 use Rattle.number.specs.Restack.{fullOfShort, restacked}
 use Rattle.number.specs.RestackLaws.{restack-full, restack-some, restack-zero}
-
--- the places to the top bit, of so many, are the zeros above it
-pub top-set : (k v : ℕ) → 0 < v → v < 2 ^ suc k → (2 ^ k ≤ v * 2 ^ leadingZeros (suc k) v) × (v * 2 ^ leadingZeros (suc k) v < 2 ^ suc k) × (leadingZeros (suc k) v ≤ k)
-top-set k v h g =
-    let z = leadingZeros (suc k) v in
-    let t = leading-top (suc k) v h g in
-    let j = t .0 in
-    let top : k ≡ j + z = omega (arith, t .1) in
-    let past : suc j + z ≡ suc k = omega (arith, t .1) in (
-      le-trans (le-of-eq (ap (λ (i : ℕ). 2 ^ i) top ∙ pow-add 2 j z)) (mul-le-mul-right (2 ^ z) (t .2)),
-      subst (λ (i : ℕ). v * 2 ^ z < 2 ^ i) past (shl-lt {a = v} (suc j) z (t .3)),
-      omega (arith, t .1),
-    )
 
 -- The full number that stands for v, 1 to 65,535: sign, mantissa, and mantissa times 2^b1 is v times 2^160.
 pub record Stands (s v : ℕ) (y : Number) : Type 0 where

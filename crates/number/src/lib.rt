@@ -2,6 +2,7 @@
 mod form;
 mod operand;
 mod parts;
+mod zeros;
 
 pub use form::Form;
 pub use form::form_of;
@@ -18,6 +19,7 @@ pub use parts::low_half;
 pub use parts::short_magnitude;
 pub use parts::short_word;
 pub use parts::swapped;
+pub use zeros::leading_zeros;
 
 // A number is five bytes b1 to b5. The word is b2 to b5, high byte first. It stands before b1 so that the compiler, which moves the struct as one
 // machine word, has it in the low half and stores its bytes at once.

@@ -1,5 +1,6 @@
 // A number as the arithmetic takes it, without its re-stacked form being written out.
 use super::parts::low_half;
+use super::zeros::leading_zeros;
 ghost use mathlib.Core.Path.{_≡_};
 ghost use Prim.Native.Nat.{ℕ, _^_, _/_, _%_, _<_};
 ghost use Rattle.number.specs.Number.{number, low};
@@ -62,7 +63,7 @@ pub fn operand_of(byte: u32, half: u16) -> Operand
             e: 0,
         };
     }
-    let places = u32::leading_zeros(short.v);
+    let places = leading_zeros(short.v);
     Operand {
         malformed: false,
         sign: short.mask,

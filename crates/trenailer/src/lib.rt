@@ -1,4 +1,4 @@
-// The calculator for programs in other languages: include/trenailer.h declares these eight functions. A slice passes as a pointer and a
+// The calculator for programs in other languages: include/trenailer.h declares these nine functions. A slice passes as a pointer and a
 // length, and what a function answers beside its result goes out through a pointer.
 use calculator::Cell;
 use calculator::Edition;
@@ -6,6 +6,7 @@ use replaying::Field;
 use replaying::Verdict;
 ghost use mathlib.Core.Path.{_≡_};
 ghost use Rattle.edition.specs.Edition.{unnamed};
+ghost use Rattle.number.specs.LeadingZeros.{Zeros};
 ghost use Rattle.slots.specs.Push.{pushOf};
 ghost use Rattle.display.specs.Cell.{cellOf};
 ghost use Rattle.literals.specs.Operate.{outcome, operateOf};
@@ -145,6 +146,13 @@ pub extern "C" fn trenailer_cell(
             3
         }
     }
+}
+
+#[no_mangle]
+pub extern "C" fn trenailer_leading_zeros(t: u32) -> u8
+    ensures { λ r. ⌜ Zeros t r ⌝ }
+{
+    calculator::leading_zeros(t) as u8
 }
 
 fn field_number(field: Field) -> u8

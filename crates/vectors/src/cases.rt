@@ -21,6 +21,16 @@ fn replay(stack: &mut [u8], recording: &[u8]) -> bool {
     answers::write_replayed(field, report, count, stack, depth)
 }
 
+// T is four bytes, high byte first, and its number of zeros stands where a position would.
+fn leading_zeros(stack: &[u8], depth: usize, bytes: &[u8]) -> bool {
+    if bytes.len() != 4 {
+        return answers::write_malformed();
+    }
+    let t = number::joined(bytes[0], bytes[1], bytes[2], bytes[3]);
+    let zeros = trenailer::trenailer_leading_zeros(t);
+    answers::write_answer(0, zeros as usize, stack, depth)
+}
+
 fn call(kind: u8, stack: &mut [u8], depth: usize, bytes: &[u8]) -> bool {
     match kind {
         b'p' => {
@@ -32,6 +42,7 @@ fn call(kind: u8, stack: &mut [u8], depth: usize, bytes: &[u8]) -> bool {
             answers::write_answer(done.report, done.position, stack, done.depth)
         }
         b'y' => replay(stack, bytes),
+        b'z' => leading_zeros(stack, depth, bytes),
         _ => {
             if bytes.len() == 1 {
                 call_with_byte(kind, stack, depth, bytes[0])

@@ -1,8 +1,8 @@
 // Does each case of standard input, one to a line, and writes all that can be seen of its answer on a line of standard output.
 //
 // A case is KIND and DEPTH, STACK, BYTES: `o` operates with the one literal of BYTES, `p` pushes BYTES, `r` runs its literals, `c` does
-// nothing but show the stack as it is, with the one report of BYTES, and `y` replays BYTES, a recording, whatever DEPTH is. `O` and `R` operate and run in the edition whose number is the first of BYTES. An answer is REPORT
-// POSITION DEPTH STACK VIEW CELL; the position is a run's, and else 0. Of a replay it is FIELD REPORT COUNT DEPTH STACK VIEW CELL, with 1 the
+// nothing but show the stack as it is, with the one report of BYTES, and `y` replays BYTES, a recording, whatever DEPTH is. `z` asks for the leading zeros of a T, the four bytes of BYTES, high byte first. `O` and `R` operate and run in the edition whose number is the first of BYTES. An answer is REPORT
+// POSITION DEPTH STACK VIEW CELL; the position is a run's, of `z` the number of zeros, and else 0. Of a replay it is FIELD REPORT COUNT DEPTH STACK VIEW CELL, with 1 the
 // report, 2 the depth, 3 the top for the field that differs, and else 0. A line that is no case is answered by `?`, and so is one of more than 65,536 bytes with its line feed, whatever it
 // holds; an empty one and a comment (`#`), which may have any length, have no answer.
 //

@@ -8,7 +8,7 @@ use lib.Count.{leadingZeros}
 use Rattle.multiplication.specs.MultiplicationLaws.{ended-low, ended-high}
 use Rattle.multiplication.specs.Multiplication.{endedProduct}
 use Rattle.multiplication.specs.Places.{roundedAt, at-zero, at-some}
-use Rattle.number.specs.RestackValue.{top-set}
+use Rattle.number.specs.LeadingZeros.{top-set}
 use Rattle.multiplication.proofs.product.multiplication.Statement.{statement}
 use Rattle.multiplication.proofs.product.multiplication.Tie as tie
 

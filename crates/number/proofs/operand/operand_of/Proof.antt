@@ -2,8 +2,9 @@
 use Prim.Native.Nat.{ℕ, _*_, _-_, _^_, _%_, _<_}
 use mathlib.Core.Path.{_≡_, refl, sym, _∙_, ap}
 use native.Mathlib.Omega.{arith}
-use lib.Count.{leadingZeros, leading-top}
+use lib.Count.{leadingZeros}
 use Rattle.number.specs.Number.{number, fullOf}
+use Rattle.number.specs.LeadingZeros.{zeros-are, zeros-below}
 use Rattle.number.specs.RestackLaws.{restack-zero}
 use Rattle.number.specs.Operand.{short-stands}
 use Rattle.number.proofs.operand.operand_of.Statement.{statement}
@@ -21,23 +22,24 @@ returns-2 c w i j =
     let k = sym (m .form) ∙ c .before .before .if1 .left in
     record { form = sym k; stands = λ f. sym (restack-zero (number 0 w) refl (sym (m .away k) ∙ c .if2 .taken)); byte = omega arith; none = λ e. refl }
 
-below : (v : ℕ) → v < 2 ^ 32 → (v ≡ 0 → ⊥) → leadingZeros 32 v < 32
-below v h n = omega (arith, leading-top 32 v (omega arith) h .1)
+-- what is known of the number of zeros
+counted : (c : tie.After-leading-zeros) → (let v = c .before .before .before .before .magnitude-of .result .v in (c .leading-zeros .result ≡ leadingZeros 32 v) × (c .leading-zeros .result < 32))
+counted c = (zeros-are _ _ (omega arith) (c .leading-zeros .ensures), zeros-below _ _ (omega arith) (c .leading-zeros .ensures) (c .before .if2 .left))
 
 returns-3 : tie.Need-returns-3
 returns-3 c w i j =
-    let e = c .before .before in
+    let k = c .before in
+    let e = k .before in
     let d = e .before .before .before in
     let m = d .magnitude-of .ensures .0 w i j in
     let v = d .magnitude-of .result .v in
-    let z = leadingZeros 32 v in
-    let s : z < 32 = below v (omega arith) (e .if2 .left) in
-    let k = sym (m .form) ∙ e .before .before .if1 .left in
+    let z = k .leading-zeros .result in
+    let f = sym (m .form) ∙ e .before .before .if1 .left in
     record {
-      form = sym k;
-      stands = λ f. ap (λ (s : ℕ). fullOf s (160 - z) (v * 2 ^ z % 2 ^ 32)) (m .signs k) ∙ short-stands _ v z (m .away k) (e .if2 .left) refl;
+      form = sym f;
+      stands = λ g. ap (λ (s : ℕ). fullOf s (160 - z) (v * 2 ^ z % 2 ^ 32)) (m .signs f) ∙ short-stands _ v z (m .away f) (e .if2 .left) (counted k .0);
       byte = omega arith;
-      none = λ e. absurd (omega arith);
+      none = λ e. absurd (omega (arith, counted k .1));
     }
 
 pub operand-of-spec : {M : Type 1} → statement M
@@ -47,6 +49,7 @@ operand-of-spec =
     (λ c κs. tt)
     returns
     returns-2
-    (λ c. below _ (omega arith) (c .before .before .if2 .left))
-    (λ c. let e = c .before .before in omega (arith, below (e .before .before .before .magnitude-of .result .v) (omega arith) (e .if2 .left)))
+    (λ c κs. tt)
+    (λ c. counted (c .before) .1)
+    (λ c. omega (arith, counted (c .before) .1))
     returns-3)
