@@ -1,4 +1,4 @@
-// The doublings, all at once: so many as there are zeros above the top bit. A magnitude whose top bit is set has none.
+// The doublings, all at once: as many as there are zeros above the top bit. A magnitude whose top bit is set, the common case, has none.
 use crate::answer::Answer;
 use crate::closing::close;
 use number::Number;
@@ -25,6 +25,9 @@ fn taken_in(digits: u64, places: u32) -> u32
 pub fn ending(sign: u8, t: u32, e: u64, digits: u64) -> Answer
     ensures { λ r. ⌜ r ≡ ended sign t e digits ⌝ }
 {
+    if 2147483648 <= t {
+        return close(sign, t, e, digits);
+    }
     if t == 0 {
         return Answer::Done(Number { b1: 0, word: 0 });
     }

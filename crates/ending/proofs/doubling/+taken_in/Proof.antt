@@ -35,5 +35,5 @@ pub +taken-in-spec : {M : Type 1} → statement M
     (λ c. omega arith)
     (λ c. omega arith)
     (λ c κs. omega arith)
-    (λ c. omega (arith, next _ _ _ (c .before .if2 .left) (omega arith) (c .taken-in .ensures)))
-    (λ c. next _ _ _ (c .before .if2 .left) (omega arith) (c .taken-in .ensures) .0)
+    (λ c. let i = c .before .before .before .args in omega (arith, next (i .places) (i .digits) _ (c .before .if2 .left) (omega arith) (c .taken-in .ensures)))
+    (λ c. let i = c .before .before .before .args in next (i .places) (i .digits) _ (c .before .if2 .left) (omega arith) (c .taken-in .ensures) .0)

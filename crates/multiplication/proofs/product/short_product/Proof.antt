@@ -6,8 +6,9 @@ use mathlib.Core.Bool.{false, _||_}
 use native.Mathlib.Nat.{mul-le-mul}
 use native.Mathlib.Omega.{arith}
 use lib.Bits.{bitXor}
-use lib.Count.{leadingZeros, leading-top}
-use Rattle.number.specs.Number.{number, malformed, low, shortOf}
+use lib.Count.{leadingZeros}
+use Rattle.number.specs.Number.{number, malformed, low, fullOf, shortOf}
+use Rattle.number.specs.LeadingZeros.{zeros-are, zeros-below}
 use Rattle.number.specs.Restack.{fullOfShort}
 use Rattle.ending.specs.declared.answer.Answer.the-variants.{Done}
 use Rattle.division.specs.DivisionLaws.{signs-differ}
@@ -44,8 +45,14 @@ module _ (e : tie.Else2) where
         signs = signs-differ _ _ (omega arith) (omega arith) ∙ ap₂ (λ (a b : ℕ). (a + b) % 2) (x .signs fx) (y .signs fy);
       }
 
-below : (v : ℕ) → v ≤ 65535 * 65535 → (v ≡ 0 → ⊥) → leadingZeros 32 v < 32
-below v h n = omega (arith, leading-top 32 v (omega arith) (omega arith) .1)
+-- what is known of the number of zeros
+counted : (c : tie.After-leading-zeros) → (let k = c .before .before .before .before in (c .leading-zeros .result ≡ leadingZeros 32 (m (k .before .before .before))) × (c .leading-zeros .result < 32))
+counted c =
+    let k = c .before .before .before .before in
+    let h = fits (k .before .before .before) in (
+      zeros-are _ _ (omega (arith, h)) (c .leading-zeros .ensures),
+      zeros-below _ _ (omega (arith, h)) (c .leading-zeros .ensures) (k .if3 .left),
+    )
 
 returns : tie.Need-returns
 returns c w v i j k l = multiplied-malformed _ _ (simp (sym (c .before .magnitude-of .ensures .0 w i j .form) ∙ c .if1 .taken))
@@ -76,17 +83,18 @@ returns-4 c w v i j k l =
 returns-5 : tie.Need-returns-5
 unfolding fullOfShort
 returns-5 c w v i j k l =
-    let t = c .before in
+    let t = c .before .before in
     let e = t .before .before .before in
     let d = e .before .before .before in
     let n = known d w v i j k l in
-    let z = leadingZeros 32 (m d) in
+    let z = c .before .leading-zeros .result in
     let word : m d * 2 ^ z % 2 ^ 32 % 2 ^ 31 + 2 ^ 31 * (s d % 2) ≡ m d * 2 ^ z % 2 ^ 31 + 2 ^ 31 * (s d % 2) = omega arith in
     record {
       form = sym (n .formed);
       is = λ f.
           product-exact _ _ refl refl (omega arith) (omega arith) (omega (arith, n .product, t .if4 .left))
           ∙ ap₂ (λ (a b : ℕ). Done (fullOfShort a b)) (sym (n .signs)) (sym (n .product))
+          ∙ ap (λ (k : ℕ). Done (fullOf (s d) (160 - k) (m d * 2 ^ k))) (sym (counted (c .before) .0))
           ∙ ap (λ (a : ℕ). Done (number (160 - z) a)) (sym (c .full-word .ensures ∙ word));
     }
 
@@ -104,10 +112,11 @@ short-product-spec =
     (λ c. search needs)
     (λ c κs. tt)
     returns-4
-    (λ c. let e = c .before .before .before in omega (arith, below _ (fits (e .before .before .before)) (e .if3 .left)))
+    (λ c κs. tt)
+    (λ c. omega (arith, counted c))
     (λ c. search needs)
-    (λ c. let e = c .before .before .before .before .before .before in omega (arith, signs-differ (e .before .before .before .magnitude-of .result .mask) (e .before .magnitude-of2 .result .mask) (omega arith) (omega arith)))
-    (λ c. let e = c .before .before .before in below _ (fits (e .before .before .before)) (e .if3 .left))
+    (λ c. let e = c .before .before .before .before .before .before .before in omega (arith, signs-differ (e .before .before .before .magnitude-of .result .mask) (e .before .magnitude-of2 .result .mask) (omega arith) (omega arith)))
+    (λ c. counted c .1)
     (λ c. search needs)
     (λ c κs. tt)
     returns-5)
