@@ -6,7 +6,6 @@ use native.Mathlib.Numerals.{sub-one}
 use native.Mathlib.Omega.{arith}
 use lib.Pow.{pow-pos, shr-shr}
 use Rattle.number.specs.LeadingZeros.{Zeros, zeros-below, zeros-room}
-use Rattle.ending.specs.declared.answer.Answer.{Answer}
 use Rattle.ending.specs.Ending.{Loose, loose, doubled, normal, closed, ended}
 use Rattle.ending.specs.EndingLaws.{normal-set, normal-again, ended-other}
 
@@ -40,10 +39,11 @@ unfolding takenIn
 taken-in-next zero digits f = absurd (f refl)
 taken-in-next (suc k) digits f = simp (sub-one)
 
--- what two are that have the same parts
+-- part by part
 same : {t u e f d g : ℕ} → t ≡ u → e ≡ f → d ≡ g → loose t e d ≡ loose u f g
 same {u = u} {e = e} {f = f} {d = d} p q r = ap (λ (k : ℕ). loose k e d) p ∙ ap (λ (k : ℕ). loose u k d) q ∙ ap (loose u f) r
 
+-- one doubling of k + 1: what it leaves to the others
 module _ (k : ℕ) (l : Loose) where
   abbrev p : ℕ
   p = 2 ^ k
@@ -51,7 +51,7 @@ module _ (k : ℕ) (l : Loose) where
   once : (2 * l .t + l .digits % 2) * p ≡ l .t * 2 ^ suc k + l .digits % 2 * p
   once = omega (arith, add-mul (2 * l .t) (l .digits % 2) p, mul-assoc 2 (l .t) p, ap (λ (i : ℕ). l .t * i) (pow-suc 2 k), mul-assoc (l .t) p 2)
 
-  -- a doubling, and the other places at once
+  -- after it, the others at once
   shifted-once : shifted k (doubled l) ≡ shifted (suc k) l
   unfolding takenIn
   shifted-once =
@@ -67,7 +67,7 @@ module _ (k : ℕ) (l : Loose) where
   still-room : (l .t + 1) * 2 ^ suc k ≤ 2 ^ 32 → (2 * l .t + l .digits % 2 + 1) * p ≤ 2 ^ 32
   still-room h = le-trans (mul-le-mul-right {m = 2 * l .t + l .digits % 2 + 1} {n = 2 * (l .t + 1)} p (omega arith)) (omega (arith, twice))
 
--- "So many doublings at once are one shift": z of them set the top bit of T, and what comes in behind it carries nowhere.
+-- So many doublings at once are one shift. There are as many as it takes to set the top bit of T, and what comes in behind T carries nowhere.
 pub doublings : (places z : ℕ) (l : Loose) → z ≤ places → 2 ^ 31 ≤ l .t * 2 ^ z → (l .t + 1) * 2 ^ z ≤ 2 ^ 32 → normal places l ≡ shifted z l
 unfolding takenIn
 doublings places zero l h lo hi = normal-set places l (omega arith) ∙ same (omega arith) (omega arith) (sym (div-one (l .digits)))
