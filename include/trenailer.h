@@ -13,9 +13,10 @@
  * A stack is stack_len bytes, at most 16,000, and a depth: slot i is bytes 5i to 5i + 4, and the top is slot depth - 1. Bytes after the
  * last whole slot are never read or written.
  *
- * Every call takes any bytes, any depth and any literal, keeps nothing between calls, and allocates nothing. A report other than 0
- * means that no byte of the stack and no depth has changed (a run keeps what the literals before the refused one did; a replay that is
- * refused writes 0 for its depth).
+ * There are nine calls. Each takes any bytes, any depth and any literal, keeps nothing between calls, and allocates nothing; all but
+ * trenailer_leading_zeros are lent a stack. A report other than 0 means that no byte of the stack and no depth has changed (a run keeps
+ * what the literals before the refused one did; a replay that is refused writes 0 for its depth). trenailer_view, trenailer_cell and
+ * trenailer_leading_zeros give no report.
  *
  *     report   when (TRENAILER_REPORT_.. below)
  *     0        done
@@ -38,7 +39,7 @@
  *     odd         as an operand of any literal but exchange, delete and duplicate is malformed: report 3.
  *
  * trenailer_operate_in and trenailer_run_in are told the edition. A call that names none is of the shipped edition, a replay too; a push,
- * the view and the cell are the same in both.
+ * the view, the cell and leading zeros are the same in both.
  *
  * Pointers. Each pointer is lent for the call. It points to as many bytes as the length beside it says, or to one object, and is not
  * null, not even where the length is 0: pass the address of any object then. No two of a call's objects overlap. Nothing else reads or
@@ -175,6 +176,12 @@ enum {
  */
 uint8_t trenailer_replay(uint8_t *stack, size_t stack_len, const uint8_t *recording, size_t recording_len, size_t *count, uint8_t *field,
                          size_t *depth);
+
+/*
+ * How many leading zeros t has, as a number of 32 bits. Returns 32 where t is 0, else the one z for which t x 2^z is at least 2^31 and
+ * below 2^32: by so many places a sum is shifted before it is stored.
+ */
+uint8_t trenailer_leading_zeros(uint32_t t);
 
 #ifdef __cplusplus
 }

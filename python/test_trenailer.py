@@ -29,7 +29,9 @@ import trenailer  # noqa: E402
 LINE = 65_536
 STACK, BYTES = 17_000, 61_000
 LONGER = {b"y": 65_000, b"R": BYTES + 1}
-CASE = re.compile(rb"([oprcyOR])([0-9]+) ([0-9]+):((?:[0-9A-Fa-f]{2})*)(\*?) ([0-9]+):((?:[0-9A-Fa-f]{2})*)(\*?)")
+# Of these kinds there are just so many bytes.
+EXACTLY = {b"o": 1, b"c": 1, b"O": 2, b"z": 4}
+CASE = re.compile(rb"([oprcyORz])([0-9]+) ([0-9]+):((?:[0-9A-Fa-f]{2})*)(\*?) ([0-9]+):((?:[0-9A-Fa-f]{2})*)(\*?)")
 
 
 def given(length, digits, star, most):
@@ -67,7 +69,7 @@ def answer(line):
         return "?"
     kind, depth = case[1], int(case[2])
     stack, some = given(*case.group(3, 4, 5), STACK), given(*case.group(6, 7, 8), LONGER.get(kind, BYTES))
-    if depth >= 1 << 64 or stack is None or some is None or (kind in b"oc" and len(some) != 1) or (kind == b"O" and len(some) != 2) or (kind == b"R" and not some):
+    if depth >= 1 << 64 or stack is None or some is None or len(some) != EXACTLY.get(kind, len(some)) or (kind == b"R" and not some):
         return "?"
     stack, position, field = bytearray(stack), 0, ""
     if kind == b"o":
@@ -85,6 +87,8 @@ def answer(line):
     elif kind == b"y":
         report, position, compared, depth = trenailer.replay(stack, some)
         field = f"{int(compared)} "
+    elif kind == b"z":
+        report, position = 0, trenailer.leading_zeros(int.from_bytes(some, "big"))
     else:
         report = some[0]
     view, cell = trenailer.view(stack, depth), trenailer.cell(report, stack, depth)
@@ -116,8 +120,10 @@ class Vectors(unittest.TestCase):
         self.assertEqual(answer(b"y0 5: 16:000001008240"), "0 0 1 1 5:8240 5:8240 V4613937818241073152")
         self.assertEqual(answer(b"y7 5: 16:000002008240"), "2 0 0 1 5:8240 5:8240 V4613937818241073152")
         self.assertEqual(answer(b"y0 5: 65000:"), "0 8 0 0 5: 0: R8")
+        self.assertEqual(answer(b"z1 5:8240 4:0000FF"), "0 16 1 5:8240 5:8240 V4613937818241073152")
+        self.assertEqual(answer(b"z2 5:8240 4:"), "0 32 2 5:8240 0: R1")
         for line in (b"x1 5: 1:05", b"o1 5: 2:0505", b"c1 5: 0:", b"o1 5:0 1:05", b"o1 1:0000 1:05", b"o1 5:* 1:05", b"o1 17001: 1:05",
-                     b"p0 5: 61001:", b"y0 5: 65001:", b"o18446744073709551616 5: 1:05", b"o1 5: 1:05 ", b"o" + b"0" * LINE + b" 5: 1:05"):
+                     b"z1 5: 3:000001", b"z1 5: 5:0000000001", b"p0 5: 61001:", b"y0 5: 65001:", b"o18446744073709551616 5: 1:05", b"o1 5: 1:05 ", b"o" + b"0" * LINE + b" 5: 1:05"):
             self.assertEqual(answer(line), "?", line[:40])
 
 
@@ -172,6 +178,8 @@ class Calls(unittest.TestCase):
         for byte in (-1, 256):
             self.assertRaises(ValueError, trenailer.operate, stack, 0, byte)
             self.assertRaises(ValueError, trenailer.cell, byte, stack, 0)
+        for word in (-1, 1 << 32, 1 << 64, float("inf"), float("nan")):
+            self.assertRaises(ValueError, trenailer.leading_zeros, word)
         for edition in (-1, 2, 12, 255, 256, "mended"):
             self.assertRaises(ValueError, trenailer.operate, stack, 0, 2, edition=edition)
             self.assertRaises(ValueError, trenailer.run, stack, 0, b"", edition=edition)
@@ -189,6 +197,17 @@ class Calls(unittest.TestCase):
             self.assertEqual(stack.cell(), trenailer.Cell(trenailer.VALUE, None, float(n)))
         self.assertRaises(ValueError, trenailer.whole, 65_536)
         self.assertRaises(ValueError, trenailer.whole, -65_536)
+
+    def test_leading_zeros(self):
+        for t, zeros in ((0, 32), (1, 31), (2, 30), (3, 30), (0xFF, 24), (0xFFFF, 16), (0x10000, 15), (0x7FFFFFFF, 1), (0x80000000, 0), (0xFFFFFFFF, 0)):
+            self.assertEqual(trenailer.leading_zeros(t), zeros)
+        for z in range(32):
+            for t in (1 << 31 - z, (1 << 32 - z) - 1):
+                self.assertEqual(trenailer.leading_zeros(t), z)
+        self.assertEqual(trenailer.leading_zeros(True), 31)
+        for t in (None, "1", b"1"):
+            self.assertRaises(TypeError, trenailer.leading_zeros, t)
+        self.assertRaises(trenailer.ctypes.ArgumentError, trenailer.leading_zeros, 1.5)
 
     def test_a_run_of_document_01(self):
         stack = trenailer.Stack(10)

@@ -35,6 +35,11 @@ differs). The last digit of a tenth is a C there and a D here:
 `operate`, `push`, `run`, `view`, `cell` and `replay` are the same on a bytearray and a depth of your own, as the C interface has them.
 Every call takes any bytes, any depth and any literal. What it can't do it refuses by a report (`Report`), and a refusal changes nothing.
 
+`leading_zeros` needs no stack: of a number of 32 bits it is the number of places by which a sum is shifted before it is stored:
+
+    >>> leading_zeros(255), leading_zeros(0)
+    (24, 32)
+
 The calls are those of the shared library, libtrenailer.so. It is looked for by the environment variable TRENAILER_LIBRARY, which is
 its path; then where `trenailer install` and `trenailer library` put it; then among the system's libraries.
 """
@@ -159,6 +164,7 @@ def _load() -> ctypes.PyDLL:
         ("view", size, (bytes_, size, size, size_at)),
         ("cell", byte, (byte, bytes_, size, size, byte_at, ctypes.POINTER(ctypes.c_double))),
         ("replay", byte, (bytes_, size, bytes_, size, size_at, byte_at, size_at)),
+        ("leading_zeros", byte, (ctypes.c_uint32,)),
     ):
         call = getattr(library, "trenailer_" + name)
         call.restype, call.argtypes = answer, arguments
@@ -172,6 +178,12 @@ _library = _load()
 def _byte(n: int) -> int:
     if not 0 <= n <= 255:
         raise ValueError(f"{n} is not a byte")
+    return n
+
+
+def _word(n: int) -> int:
+    if not 0 <= n < 1 << 32:
+        raise ValueError(f"{n} is not a number of 32 bits")
     return n
 
 
@@ -249,6 +261,11 @@ def replay(stack: bytearray, recording: bytes) -> Replayed:
     recording = _bytes(recording)
     report = _library.trenailer_replay(_lent(stack), len(stack), recording, len(recording), count, field, after)
     return Replayed(report, count.value, Field(field.value), after.value)
+
+
+def leading_zeros(t: int) -> int:
+    """How many leading zeros a number of 32 bits has: 32 where it is 0, else the one z for which 2**31 <= t * 2**z < 2**32."""
+    return _library.trenailer_leading_zeros(_word(t))
 
 
 def whole(n: int) -> bytes:

@@ -14,6 +14,8 @@ pub enum Call {
     Cell(u8),
     /// Of a recording. It starts at depth 0, whatever the case's depth is.
     Replay(Vec<u8>),
+    /// Of a number. The stack is not lent: it is seen as it is.
+    LeadingZeros(u32),
 }
 
 #[derive(Clone, Debug, PartialEq, Eq)]
@@ -24,7 +26,7 @@ pub struct Case {
 }
 
 /// Everything that can be seen after a call. A run has a position; a replay has its count there,
-/// and the number of a field.
+/// and the number of a field. The leading zeros of a number stand there too.
 #[derive(Clone, Debug, PartialEq, Eq)]
 pub struct After {
     pub field: Option<u8>,
@@ -66,6 +68,10 @@ impl Case {
                 let o = reference::replay(&mut stack, recording);
                 field = Some(o.field_number());
                 (o.report, Some(o.count), o.depth)
+            }
+            Call::LeadingZeros(t) => {
+                let zeros = reference::leading_zeros(*t);
+                (reference::DONE, Some(zeros.into()), self.depth)
             }
         };
         let view = reference::view(&stack, depth);

@@ -1,6 +1,7 @@
 //! Numbers, stacks and literals drawn so that interesting things happen often.
 
 pub mod minus_65536;
+pub mod near;
 
 use crate::reference::literals::{self, ALL};
 use crate::reference::number::re_stack;
@@ -52,6 +53,11 @@ fn word(rng: &mut Rng) -> u32 {
         3 => rng.word() >> rng.below(32),
         _ => rng.word(),
     }
+}
+
+/// A number of 0 to 32 binary digits, one length as often as another.
+pub fn of_any_length(rng: &mut Rng) -> u32 {
+    (u64::from(rng.word()) >> rng.below(33)) as u32
 }
 
 fn exponent(rng: &mut Rng) -> u8 {

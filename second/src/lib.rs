@@ -1,6 +1,6 @@
 //! The second program: document 01's arithmetic as A2 amends it, A1's multiplication, A3's mended
-//! edition and A5's replay, written from the papers and not from the Rattle code, to make test vectors and to
-//! compare with.
+//! edition, A4's leading zeros and A5's replay, written from the papers and not from the Rattle code,
+//! to make test vectors and to compare with.
 
 pub mod case;
 #[cfg(feature = "native")]

@@ -62,6 +62,7 @@ extern "C" {
         field: *mut u8,
         depth: *mut usize,
     ) -> u8;
+    pub fn trenailer_leading_zeros(t: u32) -> u8;
 }
 
 /// The kinds that `cell` answers.
@@ -162,4 +163,9 @@ pub fn replay(
             depth,
         )
     }
+}
+
+pub fn leading_zeros(t: u32) -> u8 {
+    // SAFETY: nothing is lent.
+    unsafe { trenailer_leading_zeros(t) }
 }

@@ -60,6 +60,7 @@ pub fn case_line(case: &Case) -> String {
         Call::RunIn(edition, literals) => ('R', [&[*edition], literals.as_slice()].concat()),
         Call::Cell(report) => ('c', vec![*report]),
         Call::Replay(recording) => ('y', recording.clone()),
+        Call::LeadingZeros(t) => ('z', t.to_be_bytes().to_vec()),
     };
     let stack = given(&case.stack);
     format!("{kind}{} {stack} {}", case.depth, given(&bytes))

@@ -1,7 +1,7 @@
 //! What a random call is given.
 
 use super::recordings;
-use crate::draw::{self, minus_65536};
+use crate::draw::{self, minus_65536, near};
 use crate::rng::Rng;
 use crate::text::counted;
 use std::fmt;
@@ -18,6 +18,8 @@ pub enum Call {
     View,
     Cell(u8),
     Replay(Box<[u8]>),
+    /// The stack is not lent.
+    LeadingZeros(u32),
 }
 
 pub struct Given {
@@ -40,14 +42,16 @@ impl Given {
             (Call::Replay(recording), stack, junk)
         } else {
             let (mut stack, depth) = stack(rng);
+            near::on_top(rng, 4, &mut stack, depth);
             minus_65536::on_top(rng, 6, &mut stack, depth);
-            let call = match rng.below(28) {
+            let call = match rng.below(30) {
                 0..=6 => Call::Operate(draw::literal(rng)),
                 7..=13 => Call::OperateIn(edition(rng), draw::literal(rng)),
                 14..=15 => Call::Push(pushed(rng)),
                 16..=18 => Call::Run(list(rng)),
                 19..=22 => Call::RunIn(edition(rng), list(rng)),
                 23..=24 => Call::View,
+                25..=26 => Call::LeadingZeros(draw::of_any_length(rng)),
                 _ if rng.one_in(4) => Call::Cell(rng.byte()),
                 _ => Call::Cell(0),
             };
@@ -147,6 +151,7 @@ impl fmt::Display for Given {
             Call::View => write!(f, "view")?,
             Call::Cell(report) => write!(f, "cell, report {report}")?,
             Call::Replay(recording) => write!(f, "replay of {}", counted(recording))?,
+            Call::LeadingZeros(t) => write!(f, "leading zeros of {t:08X}")?,
         }
         write!(
             f,

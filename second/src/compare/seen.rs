@@ -8,7 +8,7 @@ use std::hint::black_box;
 
 #[derive(PartialEq, Eq)]
 pub struct Seen {
-    /// The report, the view's length, or the cell's kind.
+    /// The report, the view's length, the cell's kind, or the number of zeros.
     pub answer: usize,
     depth: usize,
     /// The position of a run, the start of a view, the count of a replay.
@@ -80,6 +80,7 @@ pub fn reference(given: &Given) -> Seen {
             (seen.answer, seen.depth) = (o.report.into(), o.depth);
             (seen.word, seen.byte) = (o.count, o.field_number());
         }
+        Call::LeadingZeros(t) => seen.answer = reference::leading_zeros(*t).into(),
     }
     seen.stack = stack;
     seen
@@ -132,6 +133,7 @@ fn call(given: &Given, stack: &mut [u8], seen: &mut Seen) {
             seen.read_untouched = *black_box(&lent) == *recording;
             answer.into()
         }
+        Call::LeadingZeros(t) => native::leading_zeros(*t).into(),
     };
 }
 

@@ -9,7 +9,7 @@ use std::fmt;
 
 #[derive(Default)]
 pub struct Tally {
-    kinds: [u64; 6],
+    kinds: [u64; 7],
     /// Of operate and run: by the old calls, in the shipped edition, in the mended one, and in none.
     editions: [u64; 4],
     /// Of operate, push and run.
@@ -28,6 +28,7 @@ impl Tally {
             Call::View => 3,
             Call::Cell(_) => 4,
             Call::Replay(_) => 5,
+            Call::LeadingZeros(_) => 6,
         };
         self.kinds[kind] += 1;
         match call {
@@ -53,10 +54,10 @@ impl Tally {
 
 impl fmt::Display for Tally {
     fn fmt(&self, f: &mut fmt::Formatter) -> fmt::Result {
-        let [operate, push, run, view, cell, replay] = self.kinds;
+        let [operate, push, run, view, cell, replay, zeros] = self.kinds;
         write!(
             f,
-            "operate {operate}, push {push}, run {run}, view {view}, cell {cell}; report"
+            "operate {operate}, push {push}, run {run}, view {view}, cell {cell}, leading zeros {zeros}; report"
         )?;
         for (report, count) in &self.reports {
             write!(f, " {report}: {count}")?;

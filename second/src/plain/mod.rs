@@ -119,3 +119,8 @@ pub fn cell(report: u8, stack: &[u8], depth: usize) -> Cell {
     let exponent = u64::from(top[0]) + 1023 - 129;
     Cell::Value((word >> 31) << 63 | exponent << 52 | (word & 0x7FFF_FFFF) << 21)
 }
+
+#[inline(always)]
+pub fn leading_zeros(t: u32) -> u8 {
+    t.leading_zeros() as u8
+}

@@ -1,6 +1,6 @@
-//! The second implementation, from document 01 and A1, A2, A3 and A5 of document 02: exact
-//! whole numbers on i128. The calls here are document 01's "Reports, and which comes first"; each
-//! other module is one of its headings, which A2 and A3 amend, or A1, A3 or A5.
+//! The second implementation, from document 01 and A1 to A5 of document 02: exact whole numbers on
+//! i128. The calls here are document 01's "Reports, and which comes first"; each other module is one
+//! of its headings, which A2 and A3 amend and A4 adds a call to, or A1, A3 or A5.
 
 pub mod addition;
 pub mod cell;
@@ -16,6 +16,7 @@ pub mod truncation;
 use crate::{Bytes, Outcome, RunOutcome, Step};
 pub use cell::{cell, view};
 pub use edition::Edition;
+pub use ending::leading_zeros;
 pub use replay::replay;
 
 pub const DONE: u8 = 0;

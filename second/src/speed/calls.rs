@@ -1,4 +1,4 @@
-//! The eight calls of a side, all of the C interface's types.
+//! The nine calls of a side, all of the C interface's types.
 
 use crate::native::*;
 use crate::plain::{self, SHIPPED};
@@ -14,6 +14,7 @@ pub struct Calls {
     pub view: unsafe extern "C" fn(*const u8, usize, usize, *mut usize) -> usize,
     pub cell: unsafe extern "C" fn(u8, *const u8, usize, usize, *mut u8, *mut f64) -> u8,
     pub replay: Replay,
+    pub leading_zeros: unsafe extern "C" fn(u32) -> u8,
 }
 
 pub type RunIn =
@@ -31,6 +32,7 @@ pub static OURS: Calls = Calls {
     view: trenailer_view,
     cell: trenailer_cell,
     replay: trenailer_replay,
+    leading_zeros: trenailer_leading_zeros,
 };
 
 pub static PLAIN: Calls = Calls {
@@ -42,6 +44,7 @@ pub static PLAIN: Calls = Calls {
     view: plain_view,
     cell: plain_cell,
     replay: plain_replay,
+    leading_zeros: plain_leading_zeros,
 };
 
 pub static EMPTY: Calls = Calls {
@@ -53,6 +56,7 @@ pub static EMPTY: Calls = Calls {
     view: empty_view,
     cell: empty_cell,
     replay: empty_replay,
+    leading_zeros: empty_leading_zeros,
 };
 
 // SAFETY of what follows: as for the C interface, every pointer is lent for the call with
@@ -161,6 +165,10 @@ unsafe extern "C" fn plain_replay(
     plain::replay(stack, recording, &mut *count, &mut *field, &mut *depth)
 }
 
+unsafe extern "C" fn plain_leading_zeros(t: u32) -> u8 {
+    plain::leading_zeros(t)
+}
+
 unsafe extern "C" fn empty_operate(_: *mut u8, _: usize, _: *mut usize, _: u8) -> u8 {
     0
 }
@@ -220,5 +228,9 @@ unsafe extern "C" fn empty_replay(
     _: *mut u8,
     _: *mut usize,
 ) -> u8 {
+    0
+}
+
+unsafe extern "C" fn empty_leading_zeros(_: u32) -> u8 {
     0
 }

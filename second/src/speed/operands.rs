@@ -8,7 +8,7 @@ use crate::Bytes;
 
 /// How many stacks a row has: so many that no processor learns from pass to pass which way each
 /// one's branches go, as one does with a few thousand.
-const STACKS: usize = 65_536;
+pub const STACKS: usize = 65_536;
 
 /// What the operands are made of.
 #[derive(Clone, Copy)]
@@ -37,17 +37,10 @@ fn exponent(rng: &mut Rng) -> u8 {
     120 + rng.below(32) as u8
 }
 
-/// Two full numbers of one sign and one exponent whose difference has just so many of its
-/// top bits cancelled, so that the ending makes up for as many places.
+/// Two full numbers whose difference has just so many of its top bits cancelled.
 pub fn near(rng: &mut Rng, bits: u32) -> [Bytes; 2] {
     let exponent = exponent(rng);
-    let sign = rng.word() & 0x8000_0000;
-    let apart = (rng.word() | 0x8000_0000) >> bits;
-    let low = rng.below(u64::from(0x8000_0000 - apart)) as u32;
-    let mut pair = [low, low + apart].map(|word| draw::number(exponent, word | sign));
-    if rng.one_in(2) {
-        pair.reverse();
-    }
+    let pair = draw::near::pair(rng, exponent, bits);
     let [first, second] = pair;
     let difference = reference::addition::subtract(reference::Edition::Shipped, first, second);
     assert_eq!(

@@ -1,10 +1,11 @@
-//! What is measured, a row each: operands drawn from a fixed seed, none of them refused but some
+//! What is measured, a row each: operands drawn from fixed seeds, none of them refused but some
 //! of a replay. The rows that name an edition have the operands of those that name none; the
 //! mended run has its own.
 
 use super::counted;
-use super::operands::{accepted, near, operand, Mix};
+use super::operands::{accepted, near, operand, Mix, STACKS};
 use super::work::{Call, Stacks, Work};
+use crate::draw;
 use crate::plain::{self, MENDED, SHIPPED};
 use crate::reference::{
     self,
@@ -26,6 +27,8 @@ const DEEPEST: usize = 3_200;
 
 pub fn all() -> Vec<Work> {
     let mut rng = Rng::new(48);
+    // Of A4's rows alone: the operands of the others stay as they were before it.
+    let mut a4 = Rng::new(1984);
     let mut all = Vec::new();
     let (mut by_name, mut mended) = (Vec::new(), Vec::new());
     for (literal, name) in ALL.into_iter().zip(NAMES) {
@@ -40,7 +43,10 @@ pub fn all() -> Vec<Work> {
         }
         all.extend(rows);
         match literal {
-            SUBTRACT => all.extend([8, 16, 24, 31].map(|bits| cancelling(&mut rng, bits))),
+            SUBTRACT => {
+                all.extend([8, 16, 24, 31].map(|bits| cancelling(&mut rng, bits)));
+                all.push(near_numbers(&mut a4));
+            }
             DIVIDE => all.extend(divisions(&mut rng)),
             _ => {}
         }
@@ -56,6 +62,7 @@ pub fn all() -> Vec<Work> {
             stacks: stacks.clone(),
         });
     }
+    all.push(leading_zeros(&mut a4));
     let (literals, stacks) = mixed_run(&mut rng, operate_shipped);
     let call = Call::RunIn(SHIPPED, literals.clone());
     by_name.push(run_row(BY_NAME, call, stacks.clone()));
@@ -112,9 +119,38 @@ fn naming(edition: u8, literal: u8, row: &Work) -> Work {
 fn cancelling(rng: &mut Rng, bits: u32) -> Work {
     Work {
         name: format!("{SUBTRACT} subtract, {bits} bits cancelled"),
-        promised: false,
+        promised: true,
         call: Call::Operate(SUBTRACT),
         stacks: accepted(SUBTRACT, || near(rng, bits)),
+    }
+}
+
+/// The same with 1 to 31 bits, drawn for each stack.
+fn near_numbers(rng: &mut Rng) -> Work {
+    let drawn = || {
+        let bits = 1 + rng.below(31) as u32;
+        near(rng, bits)
+    };
+    Work {
+        name: format!("{SUBTRACT} subtract, near numbers"),
+        promised: true,
+        call: Call::Operate(SUBTRACT),
+        stacks: accepted(SUBTRACT, drawn),
+    }
+}
+
+fn leading_zeros(rng: &mut Rng) -> Work {
+    let words = (0..STACKS).map(|_| draw::of_any_length(rng));
+    Work {
+        name: "leading zeros".to_string(),
+        promised: true,
+        call: Call::LeadingZeros(words.collect()),
+        stacks: Stacks {
+            bytes: vec![],
+            step: 1,
+            len: 0,
+            depth: 0,
+        },
     }
 }
 

@@ -18,6 +18,8 @@ pub enum Call {
     RunIn(u8, Vec<u8>),
     /// This recording in one call.
     Replay(Vec<u8>),
+    /// Of each of these. There is no stack.
+    LeadingZeros(Vec<u32>),
 }
 
 /// So many stacks: the i-th is the `len` bytes from `i * step` on. A call borrows its own
@@ -60,6 +62,7 @@ impl Work {
         match &self.call {
             Call::Run(literals) | Call::RunIn(_, literals) => literals.len(),
             Call::Replay(recording) => recording.len() / RECORD,
+            Call::LeadingZeros(words) => words.len(),
             _ => self.stacks.count(),
         }
     }
@@ -137,6 +140,11 @@ impl Work {
                     let depth = &mut area.depths[0];
                     let report = (calls.replay)(stacks, len, records, length, count, field, depth);
                     answers += usize::from(report);
+                }
+                Call::LeadingZeros(words) => {
+                    for &t in words {
+                        answers += usize::from((calls.leading_zeros)(t));
+                    }
                 }
             }
         }

@@ -9,6 +9,7 @@ mod fifth_byte;
 mod lines;
 mod long;
 mod multiplication;
+mod normalising;
 mod one_number;
 mod paper;
 mod random;
@@ -33,8 +34,9 @@ pub struct Vectors {
 const HEADER: &str = "\
 # Cases for the calculator, made by second/vectors. A line is KIND and DEPTH, STACK, BYTES:
 # o operate, p push, r run, c the view and the cell with a report, y replay, O and R operate and run
-# in the edition of a number, which is the first of the bytes; bytes as LENGTH:HEX, where zeros at
-# the end may be left out, or as LENGTH:HEX*, repeated up to the length.
+# in the edition of a number, which is the first of the bytes, z the leading zeros of four bytes, high
+# byte first; bytes as LENGTH:HEX, where zeros at the end may be left out, or as LENGTH:HEX*, repeated
+# up to the length.
 ";
 
 impl Vectors {
@@ -159,5 +161,6 @@ pub fn all() -> Vectors {
     lines::cases(&mut v);
     replays::cases(&mut v);
     editions::cases(&mut v);
+    normalising::cases(&mut v);
     v
 }
