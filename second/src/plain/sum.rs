@@ -189,24 +189,30 @@ fn total(first: &mut Slot, a: Term, b: Term) -> u8 {
         cold_path();
         places = 63;
     }
-    let mut sum = large.mantissa + ((((small.mantissa << 1) >> places) + 1) >> 1);
-    let mut exponent = large.exponent;
+    let sum = large.mantissa + ((((small.mantissa << 1) >> places) + 1) >> 1);
     if sum == 0 {
         cold_path();
         *first = ZERO;
         return DONE;
     }
-    if sum.unsigned_abs() & 1 << 32 != 0 {
-        sum = (sum + 1) >> 1;
-        exponent += 1;
-        if exponent == 256 {
+    let magnitude = sum.unsigned_abs();
+    // What is carried has its top bit set, and needs no count. It is laid out of the way of what is not.
+    if magnitude & 1 << 32 != 0 {
+        cold_path();
+        if large.exponent == 255 {
             cold_path();
             return TOO_BIG;
         }
+        // A half goes up: to the larger magnitude where there is no sign, to the smaller where there is.
+        let sign = sum >> 63;
+        let half = magnitude.wrapping_add(1).wrapping_add_signed(sign) >> 1;
+        first[0] = large.exponent as u8 + 1;
+        store_word(first, signed(half as u32, sign as i32));
+        return DONE;
     }
-    let magnitude = sum.unsigned_abs() as u32;
+    let magnitude = magnitude as u32;
     let zeros = magnitude.leading_zeros();
-    exponent -= zeros as i32;
+    let exponent = large.exponent - zeros as i32;
     if exponent <= 0 {
         cold_path();
         return least(first, exponent, (sum >> 32) as i32);
