@@ -59,7 +59,8 @@ fn short(x: Short, negated: bool) -> Term {
 }
 
 /// The short route as the ROM has it, which is the fewest instructions here too: the low halves,
-/// and the signs with their carry, which is a sign where the sum is short. Whether it was stored.
+/// and the signs with their carry, which is a sign where the sum is short. What is not is exact in
+/// full, and nothing is re-stacked for it; only odd counts as zero there, and then nothing is stored.
 #[inline(always)]
 fn stored_short(first: &mut Slot, a: Short, b: Short, negated: bool) -> bool {
     if negated && b.low == 0 {
@@ -77,11 +78,36 @@ fn stored_short(first: &mut Slot, a: Short, b: Short, negated: bool) -> bool {
         let (low, carry) = a.low.overflowing_add(b.low);
         (low, a_sign + b_sign + i8::from(carry))
     };
-    let is_short = matches!(sign, 0 | -1);
-    if is_short {
+    if matches!(sign, 0 | -1) {
         store_sum(first, sign, low);
+        return true;
     }
-    is_short
+    cold_path();
+    // Odd: of any other two with such a sum neither low half is zero.
+    if a.low == 0 {
+        cold_path();
+        return false;
+    }
+    if !negated && b.low == 0 {
+        cold_path();
+        return false;
+    }
+    store_beyond(first, sign, low);
+    true
+}
+
+/// A sum beyond the short numbers has seventeen digits. The sign stands in place of the first; the others
+/// are the low half, or what that is less than 65,536.
+#[inline(always)]
+fn store_beyond(first: &mut Slot, sign: i8, low: u16) {
+    let digits = u32::from(low) << 15;
+    let word = if sign < 0 {
+        digits.wrapping_neg()
+    } else {
+        digits
+    };
+    first[0] = 128 + 17;
+    store_word(first, word);
 }
 
 #[inline(always)]
@@ -153,10 +179,9 @@ fn sum_mended(first: &mut Slot, second: &Slot, negated: bool) -> u8 {
                 *first = MINUS_65536;
                 return DONE;
             }
-            (
-                short(Short::of_spread(a), false),
-                short(Short::of_spread(b), negated),
-            )
+            let sum = Short::of_spread(sum);
+            store_beyond(first, sum.sign as i8, sum.low);
+            return DONE;
         }
         (0, _) => {
             let Some(a) = short_mended(first, false) else {
@@ -189,24 +214,30 @@ fn total(first: &mut Slot, a: Term, b: Term) -> u8 {
         cold_path();
         places = 63;
     }
-    let mut sum = large.mantissa + ((((small.mantissa << 1) >> places) + 1) >> 1);
-    let mut exponent = large.exponent;
+    let sum = large.mantissa + ((((small.mantissa << 1) >> places) + 1) >> 1);
     if sum == 0 {
         cold_path();
         *first = ZERO;
         return DONE;
     }
-    if sum.unsigned_abs() & 1 << 32 != 0 {
-        sum = (sum + 1) >> 1;
-        exponent += 1;
-        if exponent == 256 {
+    let magnitude = sum.unsigned_abs();
+    // What is carried has its top bit set, and needs no count. It is laid out of the way of what is not.
+    if magnitude & 1 << 32 != 0 {
+        cold_path();
+        if large.exponent == 255 {
             cold_path();
             return TOO_BIG;
         }
+        // A half goes up: to the larger magnitude where there is no sign, to the smaller where there is.
+        let sign = sum >> 63;
+        let half = magnitude.wrapping_add(1).wrapping_add_signed(sign) >> 1;
+        first[0] = large.exponent as u8 + 1;
+        store_word(first, signed(half as u32, sign as i32));
+        return DONE;
     }
-    let magnitude = sum.unsigned_abs() as u32;
+    let magnitude = magnitude as u32;
     let zeros = magnitude.leading_zeros();
-    exponent -= zeros as i32;
+    let exponent = large.exponent - zeros as i32;
     if exponent <= 0 {
         cold_path();
         return least(first, exponent, (sum >> 32) as i32);
