@@ -1,6 +1,6 @@
 //! What the ROM's literals are given: well-formed numbers, many of them at the edges of the rules.
 
-use crate::draw::{self, minus_65536};
+use crate::draw::{self, minus_65536, near};
 use crate::reference::literals::{self, ADD, INT, MULTIPLY, SUBTRACT, TRUNCATE};
 use crate::rng::Rng;
 use crate::Bytes;
@@ -8,6 +8,8 @@ use crate::Bytes;
 pub fn draw(rng: &mut Rng, literal: u8) -> Vec<Bytes> {
     match literal {
         ADD | SUBTRACT if rng.one_in(8) => minus_65536::pair(rng, literal).to_vec(),
+        // The ROM doubles what is left of them one place at a time.
+        ADD | SUBTRACT if rng.one_in(4) => near::any(rng).to_vec(),
         INT | TRUNCATE if rng.one_in(8) => vec![minus_65536::whole(rng)],
         _ => any(rng, literal),
     }
