@@ -5,7 +5,7 @@ use native.Mathlib.Nat.{le-trans, add-mul, mul-assoc, mul-le-mul-left, mul-le-mu
 use native.Mathlib.Numerals.{sub-one}
 use native.Mathlib.Omega.{arith}
 use lib.Pow.{pow-pos, shr-shr}
-use Rattle.number.specs.LeadingZeros.{Zeros, zeros-below, zeros-room}
+use Rattle.number.specs.LeadingZeros.{LeadingZeros, zeros-below, zeros-room}
 use Rattle.ending.specs.Ending.{Loose, loose, doubled, normal, closed, ended}
 use Rattle.ending.specs.EndingLaws.{normal-set, normal-again, ended-other}
 
@@ -77,13 +77,13 @@ doublings places (suc k) l h lo hi =
     ∙ shifted-once k l
 
 -- the ending, by the zeros above T's top bit
-pub ended-shifted : (s t e digits z : ℕ) → t < 2 ^ 32 → (t ≡ 0 → ⊥) → Zeros t z → ended s t e digits ≡ closed s (shifted z (loose t e digits))
+pub ended-shifted : (s t e digits z : ℕ) → t < 2 ^ 32 → (t ≡ 0 → ⊥) → LeadingZeros t z → ended s t e digits ≡ closed s (shifted z (loose t e digits))
 ended-shifted s t e digits z h n c =
     ended-other s t e digits n
     ∙ ap (closed s) (doublings 31 z (loose t e digits) (omega (arith, zeros-below t z h c n)) (c .sets n .0) (zeros-room t z h c n))
 
 -- what is shifted fits 32 bits, with what is taken in
-pub shift-fits : (t z digits r : ℕ) → t < 2 ^ 32 → (t ≡ 0 → ⊥) → Zeros t z → r ≡ takenIn z digits
+pub shift-fits : (t z digits r : ℕ) → t < 2 ^ 32 → (t ≡ 0 → ⊥) → LeadingZeros t z → r ≡ takenIn z digits
     → (t * 2 ^ z % 2 ^ 32 + r ≡ t * 2 ^ z + takenIn z digits) × (t * 2 ^ z + takenIn z digits < 2 ^ 32)
 shift-fits t z digits r h n c e = (
   omega (arith, c .sets n .1),

@@ -7,7 +7,8 @@ ghost use Prim.Native.Nat.{_≤_};
 ghost use Rattle.ending.specs.Ending.{ended};
 ghost use Rattle.ending.specs.Shift.{takenIn};
 
-// The digits that so many doublings take in. The next one is the lowest of those that are there, and comes to stand highest.
+// The digits that so many doublings take in: the next one, which is the lowest of those that are there, comes to stand highest. A sum hands over none, and is done
+// at once.
 fn taken_in(digits: u64, places: u32) -> u32
     requires { ⌜ places ≤ 32 ⌝ }
     ensures { λ r. ⌜ r ≡ takenIn places digits ⌝ }

@@ -11,7 +11,7 @@ use lib.Pow.{pow-add, pow-mono, shl-lt}
 abbrev pub SetsTop : ℕ → ℕ → Type 0
 SetsTop t z = (2 ^ 31 ≤ t * 2 ^ z) × (t * 2 ^ z < 2 ^ 32)
 
-pub record Zeros (t z : ℕ) : Type 0 where
+pub record LeadingZeros (t z : ℕ) : Type 0 where
   pub all : t ≡ 0 → z ≡ 32
   pub sets : (t ≡ 0 → ⊥) → SetsTop t z
   pub alone : (y : ℕ) → SetsTop t y → y ≡ z
@@ -55,7 +55,7 @@ top-room k v h g =
 -- ---- of a 32-bit T
 
 -- the machine's count is that number
-pub zeros-counted : (t : ℕ) → t < 2 ^ 32 → Zeros t (leadingZeros 32 t)
+pub zeros-counted : (t : ℕ) → t < 2 ^ 32 → LeadingZeros t (leadingZeros 32 t)
 zeros-counted t h =
     record {
       all = λ e. ap (leadingZeros 32) e ∙ leading-of-zero 32;
@@ -70,7 +70,7 @@ zeros-counted t h =
         go (inl e) = absurd (omega (arith, ap (λ (k : ℕ). k * 2 ^ y) e))
         go (inr p) = p
 
-module _ (t z : ℕ) (h : t < 2 ^ 32) (c : Zeros t z) where
+module _ (t z : ℕ) (h : t < 2 ^ 32) (c : LeadingZeros t z) where
   -- and that number is the machine's count
   pub zeros-are : z ≡ leadingZeros 32 t
   zeros-are = go (eq-zero-or-pos t)

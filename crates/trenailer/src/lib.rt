@@ -6,7 +6,7 @@ use replaying::Field;
 use replaying::Verdict;
 ghost use mathlib.Core.Path.{_≡_};
 ghost use Rattle.edition.specs.Edition.{unnamed};
-ghost use Rattle.number.specs.LeadingZeros.{Zeros};
+ghost use Rattle.number.specs.LeadingZeros.{LeadingZeros};
 ghost use Rattle.slots.specs.Push.{pushOf};
 ghost use Rattle.display.specs.Cell.{cellOf};
 ghost use Rattle.literals.specs.Operate.{outcome, operateOf};
@@ -150,7 +150,7 @@ pub extern "C" fn trenailer_cell(
 
 #[no_mangle]
 pub extern "C" fn trenailer_leading_zeros(t: u32) -> u8
-    ensures { λ r. ⌜ Zeros t r ⌝ }
+    ensures { λ r. ⌜ LeadingZeros t r ⌝ }
 {
     calculator::leading_zeros(t) as u8
 }

@@ -1,5 +1,5 @@
 -- `taken_in` meets its contract: it has the shape of `takenIn`, and the measure is the places left.
-use mathlib.Core.Path.{_≡_, sym, _∙_}
+use mathlib.Core.Path.{_≡_, sym}
 use Prim.Native.Nat.{ℕ, _+_, _*_, _-_, _^_, _/_, _%_, _≤_, _<_}
 use native.Mathlib.Omega.{arith}
 use borrow.Fn.PlainCycle.{Measures, is, falls, and}
