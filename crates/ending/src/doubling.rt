@@ -36,10 +36,11 @@ pub fn ending(sign: u8, t: u32, e: u64, digits: u64) -> Answer
         return Answer::Done(Number { b1: 0, word: 0 });
     }
     let places = number::leading_zeros(t);
+    let fall = places as u64;
     close(
         sign,
         (t << places) + taken_in(digits, places),
-        e - places as u64,
-        digits >> places,
+        e - fall,
+        digits >> fall,
     )
 }

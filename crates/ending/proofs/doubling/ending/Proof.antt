@@ -28,11 +28,10 @@ ending-spec =
     (λ c. sym (ended-zero _ _ _ _ (omega arith)))
     (λ c. sym (ended-below _ _ _ _ (omega arith)))
     (λ c κs. tt)
+    (λ c. omega (arith, z< c))
     z<
     (λ c κs. omega (arith, z< c))
     (λ c. omega (arith, fits c))
-    (λ c. omega (arith, z< (c .before)))
-    (λ c. omega (arith, z< (c .before)))
     (λ c. omega (arith, z< (c .before)))
     (λ c. omega (arith, z< (c .before)))
     (λ c κs. tt)
