@@ -4,6 +4,7 @@ pub mod AdditionLaws
 pub mod ShortRouteLaws
 pub mod TooBig
 pub mod MantissaLaws
+pub mod ShortExact
 pub mod SecondHalves
 pub mod SignBytes
 pub mod MendedLaws

@@ -96,7 +96,7 @@ module _ (x y : Number) where
   abbrev carry : ℕ
   carry = carryOf (wrapped x y) (low x)
 
-  total : low x + low y ≡ wrapped x y + 2 ^ 16 * carry
+  pub total : low x + low y ≡ wrapped x y + 2 ^ 16 * carry
   total = wraps (low x) (low y) (omega arith) (omega arith)
 
   sum-as : shortSum x y ≡ pos (low x + low y) -ℤ pos (2 ^ 16 * negatives x y)
@@ -162,3 +162,7 @@ module _ (ed : Edition) (x y : Number) where
 
       pub sum-beyond : (carryOf (wrapped x y) (low x) ≡ negatives x y → ⊥) → (carryOf (wrapped x y) (low x) + 1 ≡ negatives x y → ⊥) → sumOf ed x y ≡ fullRoute x y
       sum-beyond h k = short-beyond (sum-2 x y h k)
+
+-- the shipped edition writes -65,536 as any other
+pub sum-shipped : (x y : Number) → x .b1 ≡ 0 → y .b1 ≡ 0 → carryOf (wrapped x y) (low x) + 1 ≡ negatives x y → sumOf Shipped x y ≡ Done (storedOver x (halves 255 (wrapped x y)))
+sum-shipped x y f g h = sum-written Shipped x y f g h ∙ ap Done (over-again x (wrapped x y) (omega arith))

@@ -1,42 +1,40 @@
 -- The short route by its sign bytes, which settle the seventeenth bit as in the listing: what it answers, and that the code's bytes come to it.
-use Prim.Native.Nat.{ℕ, _+_, _*_, _-_, _^_, _/_, _%_, _≤_, _<_}
+use Prim.Native.Nat.{ℕ, zero, suc, _+_, _*_, _-_, _^_, _/_, _%_, _≤_, _<_}
 use mathlib.Core.Path.{_≡_, refl, sym, _∙_, ap, ap₂, subst, subst₂}
 use mathlib.Core.Logic.{_⊎_, inl, inr}
 use mathlib.Core.Bool.{Bool, true, false, cond, _||_, or-true}
-use borrow.Author.Tests.{le-leb, eqb-true, eqb-false, ltb-true, ltb-false}
-use native.Mathlib.Nat.{eq-zero-or-pos}
+use borrow.Author.Tests.{lt-ltb, le-ltb, eq-eqb, ne-eqb, eqb-true, eqb-false, ltb-true, ltb-false}
+use native.Mathlib.Nat.{eq-zero-or-pos, add-zero}
 use native.Mathlib.Omega.{arith}
 use lib.Bits.{bitOr, or-lt, or-add-and, and-le-l, and-le-r}
 use lib.Dec.{ltb, eqb}
-use lib.IntN.{ℤ}
+use Rattle.edition.specs.declared.Edition.the-variants.{Shipped}
 use Rattle.number.specs.declared.Number.{Number}
-use Rattle.number.specs.Number.{b2, number, malformed, sign, low, complementOf, shortMagnitude, halves, shortOf}
-use Rattle.number.specs.NumberLaws.{places, halves-bytes, low-halves, magnitude-cases}
+use Rattle.number.specs.Number.{number, malformed, sign, low, complementOf, shortMagnitude, halves, storedOver, shortOf}
+use Rattle.number.specs.NumberLaws.{places, low-halves, magnitude-cases}
 use Rattle.number.specs.FormLaws.{malformed-short, malformed-between, malformed-negative}
 use Rattle.number.specs.Negate.{negated}
 use Rattle.number.specs.NegateLaws.{negate-zero, negate-short}
+use Rattle.ending.specs.declared.answer.Answer.the-variants.{Done}
 use Rattle.addition.specs.declared.short.Short.{Short}
-use Rattle.addition.specs.declared.short.Short.the-variants.{Malformed, Stored, Beyond}
+use Rattle.addition.specs.declared.short.Short.the-variants.{Malformed, Stored, Exact, Beyond}
 use Rattle.addition.specs.declared.short.Halves.{Halves}
-use Rattle.addition.specs.Addition.{storedShort, shortSum, shortOfWhole, secondOf}
-use Rattle.addition.specs.ShortRouteLaws.{carryOf, wrapped, again, sum-0, sum-1, sum-2}
+use Rattle.addition.specs.Addition.{fullRoute, sumOf, secondOf}
+use Rattle.addition.specs.ShortRouteLaws.{carryOf, negatives, wrapped, total, sum-positive, sum-shipped, sum-beyond}
+use Rattle.addition.specs.ShortExact.{positive-exact, negative-exact}
 use Rattle.addition.specs.SecondHalves.{halvesOf, secondHalves, addedHalves}
 
--- what the short route answers of a sum: the three bytes that are stored, as a sign byte and a low half
-abbrev pub told : ℤ → Short
-told z = cond (storedShort z) (Stored (b2 (shortOfWhole z)) (low (shortOfWhole z))) Beyond
+-- what the short route's answer says of two numbers; one that is full goes the full route too
+unfoldable pub Says : Bool → Number → Number → Short → Type 0
+Says less x y Malformed = malformed x || malformed y ≡ true
+Says less x y (Stored b h) = (malformed x || malformed y ≡ false) × (sumOf Shipped x (secondOf less y) ≡ Done (storedOver x (halves b h)))
+Says less x y (Exact w) = (malformed x || malformed y ≡ false) × (sumOf Shipped x (secondOf less y) ≡ Done (number 145 w))
+Says less x y Beyond = sumOf Shipped x (secondOf less y) ≡ fullRoute x (secondOf less y)
 
-unfoldable pub shortAnswer : Bool → Number → Number → Short
-shortAnswer less x y = cond (malformed x || malformed y) Malformed (told (shortSum x (secondOf less y)))
-
-module _ (less : Bool) (x y : Number) where
-  pub answer-malformed : malformed x || malformed y ≡ true → shortAnswer less x y ≡ Malformed
-  unfolding shortAnswer
-  answer-malformed h = simp h
-
-  answer-told : malformed x || malformed y ≡ false → shortAnswer less x y ≡ told (shortSum x (secondOf less y))
-  unfolding shortAnswer
-  answer-told h = simp h
+-- The word of a sum of seventeen digits, by what its sign bytes make, 1 or 254, and its low half. The sign stands in place of the first digit, and the others are the
+-- low half's, or those of what it is less than 65,536.
+abbrev pub seventeenOf : ℕ → ℕ → ℕ
+seventeenOf k w = cond (ltb k 128) (w * 2 ^ 15) ((2 ^ 32 - w * 2 ^ 15) % 2 ^ 32)
 
 -- a word by one more than its first byte, wrapped
 unformed : (w k : ℕ) → w < 2 ^ 32 → k ≡ (w / 2 ^ 24 + 1) % 256 → 1 < k → malformed (number 0 w) ≡ true
@@ -57,8 +55,9 @@ pub record Formed (x y : ℕ) : Type 0 where
 
 -- by one question for both
 module _ (x y i j : ℕ) (l : x < 2 ^ 32) (m : y < 2 ^ 32) (e : i ≡ (x / 2 ^ 24 + 1) % 256) (f : j ≡ (y / 2 ^ 24 + 1) % 256) where
-  pub one-unformed : 1 < bitOr i j → malformed (number 0 x) || malformed (number 0 y) ≡ true
-  one-unformed h = go (ltb 1 i) (ltb 1 j) refl refl
+  pub one-unformed : 1 < bitOr i j → (less : Bool) → Says less (number 0 x) (number 0 y) Malformed
+  unfolding Says
+  one-unformed h less = go (ltb 1 i) (ltb 1 j) refl refl
     where
       go : (a b : Bool) → ltb 1 i ≡ a → ltb 1 j ≡ b → malformed (number 0 x) || malformed (number 0 y) ≡ true
       go true b p q = simp (unformed x i l e (ltb-true _ _ p))
@@ -113,6 +112,16 @@ second-split true w l e = go (eqb (low y) 0) refl (magnitude-cases y (record { b
         split _ 0 (complementOf (low y)) _ (omega arith) refl (omega arith) (omega arith)
         (negate-short y refl (omega arith) ∙ ap₂ shortOf {x = 1 - sign y} {y = 0} (omega (arith, p .0)) (p .1))
 
+-- n sign bytes of 255 that, with the carry, make neither 0 nor 255
+abbrev Alike : ℕ → ℕ → ℕ → Type 0
+Alike n c k = ((n ≡ 0) × (c ≡ 1) × (k ≡ 1)) ⊎ ((n ≡ 2) × (c ≡ 0) × (k ≡ 254))
+
+alike : (n c k : ℕ) → n < 3 → c < 2 → k ≡ (255 * n % 256 + c) % 256 → 2 ≤ (k + 1) % 256 → Alike n c k
+alike zero c k l m h e = inl (refl, omega arith, omega arith)
+alike (suc zero) c k l m h e = absurd (omega arith)
+alike (suc (suc zero)) c k l m h e = inr (refl, omega arith, omega arith)
+alike (suc (suc (suc n))) c k l m h e = absurd (omega arith)
+
 -- the sign bytes and the carry, settled
 module _ (x y : Number) (b c k : ℕ) (p : b ≡ 255 * sign x) (q : c ≡ 255 * sign y) (l : sign x < 2) (m : sign y < 2)
     (h : k ≡ ((b + c) % 256 + carryOf (wrapped x y) (low x)) % 256) where
@@ -123,24 +132,36 @@ module _ (x y : Number) (b c k : ℕ) (p : b ≡ 255 * sign x) (q : c ≡ 255 * 
       go true = omega arith
       go false = omega arith
 
-  told-stored : (k + 1) % 256 < 2 → told (shortSum x y) ≡ Stored k (wrapped x y)
-  told-stored g = go (eqb k 0) refl ∙ ap₂ Stored (halves-bytes k w (omega arith) .0) (low-halves k w (omega arith))
-    where
-      w : ℕ
-      w = wrapped x y
+  module _ (f : x .b1 ≡ 0) (g : y .b1 ≡ 0) where
+    pub bytes-stored : (k + 1) % 256 < 2 → sumOf Shipped x y ≡ Done (storedOver x (halves k (wrapped x y)))
+    bytes-stored e = go (eqb k 0) refl
+      where
+        go : (t : Bool) → eqb k 0 ≡ t → sumOf Shipped x y ≡ Done (storedOver x (halves k (wrapped x y)))
+        go true i =
+            let none = eqb-true k 0 i in
+            sum-positive Shipped x y f g (omega (arith, ways)) ∙ ap (λ (n : ℕ). Done (storedOver x (halves n (wrapped x y)))) (sym none)
+        go false i =
+            let all : k ≡ 255 = omega (arith, eqb-false k 0 i) in
+            sum-shipped x y f g (omega (arith, ways)) ∙ ap (λ (n : ℕ). Done (storedOver x (halves n (wrapped x y)))) (sym all)
 
-      go : (t : Bool) → eqb k 0 ≡ t → told (shortSum x y) ≡ Stored (b2 (halves k w)) (low (halves k w))
-      go true e =
-          let none = eqb-true k 0 e in
-          ap told (sum-0 x y (omega (arith, ways)))
-          ∙ simp (le-leb w 65535 (omega arith)) (ap (λ (i : ℕ). Stored (b2 (halves i w)) (low (halves i w))) (sym none))
-      go false e =
-          let all : k ≡ 255 = omega (arith, eqb-false k 0 e) in
-          ap told (sum-1 x y (omega (arith, ways)))
-          ∙ simp (le-leb (65535 - w) 65535 (omega arith)) (ap₂ (λ (i j : ℕ). Stored (b2 (halves i j)) (low (halves i j))) (sym all) (again w (omega arith)))
+    module _ (e : 2 ≤ (k + 1) % 256) where
+      pub bytes-beyond : sumOf Shipped x y ≡ fullRoute x y
+      bytes-beyond = sum-beyond Shipped x y f g (λ i. omega (arith, ways)) (λ i. omega (arith, ways))
 
-  told-beyond : 2 ≤ (k + 1) % 256 → told (shortSum x y) ≡ Beyond
-  told-beyond g = simp (sum-2 x y (λ e. omega (arith, ways)) (λ e. omega (arith, ways)))
+      -- both have one sign, and neither counts as zero
+      pub bytes-exact : 0 < low x → 0 < low y → sumOf Shipped x y ≡ Done (number 145 (seventeenOf k (wrapped x y)))
+      bytes-exact i j = bytes-beyond ∙ go (alike (negatives x y) carry k (omega arith) ways (h ∙ ap (λ (n : ℕ). (n % 256 + carry) % 256) {x = b + c} {y = 255 * negatives x y} (omega arith)) e)
+        where
+          carry : ℕ
+          carry = carryOf (wrapped x y) (low x)
+
+          go : Alike (negatives x y) carry k → fullRoute x y ≡ Done (number 145 (seventeenOf k (wrapped x y)))
+          go (inl a) =
+              positive-exact x y f g i j (wrapped x y) (omega arith) (omega arith) (omega arith) (total x y ∙ ap (λ (n : ℕ). wrapped x y + 2 ^ 16 * n) (a .1))
+              ∙ sym (simp (lt-ltb k 128 (omega arith)))
+          go (inr a) =
+              negative-exact x y f g i j (wrapped x y) (omega arith) (omega arith) (omega arith) (total x y ∙ ap (λ (n : ℕ). wrapped x y + 2 ^ 16 * n) (a .1) ∙ add-zero (wrapped x y))
+              ∙ sym (simp (le-ltb k 128 (omega arith)))
 
 -- what is answered goes by the sign bytes and low halves, added
 module _ (less : Bool) (x y : ℕ) (l : x < 2 ^ 32) (m : y < 2 ^ 32) (f : Formed x y) where
@@ -165,13 +186,30 @@ module _ (less : Bool) (x y : ℕ) (l : x < 2 ^ 32) (m : y < 2 ^ 32) (f : Formed
   settled : sum .byte ≡ ((x / 2 ^ 24 + halved .byte) % 256 + carryOf (wrapped first other) (low first)) % 256
   settled = ap (λ (w : ℕ). ((x / 2 ^ 24 + halved .byte) % 256 + carryOf w (low first)) % 256) (sym lows)
 
-  pub answer-stored : (sum .byte + 1) % 256 < 2 → shortAnswer less first (number 0 y) ≡ Stored (sum .byte) (sum .low)
-  answer-stored h =
-      answer-told less first (number 0 y) (f .both)
-      ∙ told-stored first other _ _ (sum .byte) (f .first) (split .bytes) (omega arith) (split .sign<) settled h
-      ∙ ap (Stored (sum .byte)) lows
+  pub answer-stored : (sum .byte + 1) % 256 < 2 → Says less first (number 0 y) (Stored (sum .byte) (sum .low))
+  unfolding Says
+  answer-stored h = (
+    f .both,
+    bytes-stored first other _ _ (sum .byte) (f .first) (split .bytes) (omega arith) (split .sign<) settled refl (split .first) h
+    ∙ ap (λ (w : ℕ). Done (storedOver first (halves (sum .byte) w))) lows,
+  )
 
-  pub answer-beyond : 2 ≤ (sum .byte + 1) % 256 → shortAnswer less first (number 0 y) ≡ Beyond
-  answer-beyond h =
-      answer-told less first (number 0 y) (f .both)
-      ∙ told-beyond first other _ _ (sum .byte) (f .first) (split .bytes) (omega arith) (split .sign<) settled h
+  pub answer-beyond : 2 ≤ (sum .byte + 1) % 256 → Says less first (number 0 y) Beyond
+  unfolding Says
+  answer-beyond h = bytes-beyond first other _ _ (sum .byte) (f .first) (split .bytes) (omega arith) (split .sign<) settled refl (split .first) h
+
+  pub answer-exact : 2 ≤ (sum .byte + 1) % 256 → 0 < low first → 0 < low (number 0 y) → Says less first (number 0 y) (Exact (seventeenOf (sum .byte) (sum .low)))
+  unfolding Says
+  answer-exact h p q = (
+    f .both,
+    bytes-exact first other _ _ (sum .byte) (f .first) (split .bytes) (omega arith) (split .sign<) settled refl (split .first) h p (second-some less)
+    ∙ ap (λ (w : ℕ). Done (number 145 (seventeenOf (sum .byte) w))) lows,
+  )
+    where
+      -- nor is the second one when it is negated
+      second-some : (b : Bool) → 0 < low (secondOf b (number 0 y))
+      second-some b = subst (λ (n : ℕ). 0 < n) (sym (second-split b y m (f .second) .lows)) (go b)
+        where
+          go : (b : Bool) → 0 < secondHalves b (y / 2 ^ 24) (low (number 0 y)) .low
+          go true = simp (ne-eqb (low (number 0 y)) 0 (omega arith)) (omega arith)
+          go false = q

@@ -4,12 +4,14 @@ ghost use Prim.Native.Nat.{ℕ, _^_, _/_};
 ghost use Rattle.number.specs.Number.{number, low};
 ghost use Rattle.addition.specs.ShortRouteLaws.{carryOf};
 ghost use Rattle.addition.specs.SecondHalves.{secondHalves, addedHalves};
-ghost use Rattle.addition.specs.SignBytes.{shortAnswer};
+ghost use Rattle.addition.specs.SignBytes.{Says, seventeenOf};
 
 pub enum Short {
     Malformed,
     // The sum's sign byte and low half.
     Stored(u8, u16),
+    // The word of the sum, a full number whose b1 is 145: it has seventeen digits.
+    Exact(u32),
     // The sum goes the full route.
     Beyond,
 }
@@ -54,10 +56,21 @@ fn total(b: u8, first: u16, c: u8, other: u16, less: bool) -> Halves
     }
 }
 
+// The sign of a sum that is not short stands in place of its first digit.
+fn seventeen(byte: u8, low: u16) -> u32
+    ensures { λ r. ⌜ r ≡ seventeenOf byte low ⌝ }
+{
+    let digits = low as u32 * 32768;
+    if byte < 128 {
+        return digits;
+    }
+    std::num::wrapping_sub_u32(0, digits)
+}
+
 // The sign bytes settle the seventeenth bit, as in the listing: they and the carry make 0 or 255, a sign byte again, where the sum is stored short.
 pub fn short_sum(b: u8, first: u16, c: u8, other: u16, less: bool) -> Short
     ensures { λ r. ⌜ ((x y : ℕ) → x / 2 ^ 24 ≡ b → low (number 0 x) ≡ first → y / 2 ^ 24 ≡ c → low (number 0 y) ≡ other
-        → r ≡ shortAnswer less (number 0 x) (number 0 y)) ⌝ }
+        → Says less (number 0 x) (number 0 y) r) ⌝ }
 {
     // One more than 00 or FF is 1 or 0, and one question asks both.
     if (std::num::wrapping_add_u8(b, 1) | std::num::wrapping_add_u8(c, 1)) > 1 {
@@ -67,5 +80,12 @@ pub fn short_sum(b: u8, first: u16, c: u8, other: u16, less: bool) -> Short
     if std::num::wrapping_add_u8(sum.byte, 1) < 2 {
         return Short::Stored(sum.byte, sum.low);
     }
-    Short::Beyond
+    // Odd, which the full route takes for zero: no other low half is 0 here.
+    if first == 0 {
+        return Short::Beyond;
+    }
+    if other == 0 {
+        return Short::Beyond;
+    }
+    Short::Exact(seventeen(sum.byte, sum.low))
 }

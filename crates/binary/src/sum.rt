@@ -2,7 +2,9 @@
 use crate::storing::store;
 use crate::term::term;
 use addition::Short;
+use ending::Answer;
 use literals::table;
+use number::Number;
 ghost use mathlib.Core.Path.{_≡_};
 ghost use mathlib.Core.Logic.{_⊎_};
 ghost use mathlib.Core.Bool.{false};
@@ -10,7 +12,9 @@ ghost use Prim.Native.Nat.{_^_};
 ghost use Rattle.slots.specs.Reach.{lacking, numberAt};
 ghost use Rattle.edition.specs.declared.Edition.the-variants.{Shipped};
 ghost use Rattle.literals.specs.Operate.{outcome, operateOf};
-ghost use Rattle.binary.specs.Sum.{flips, literalOf, routeOf, GoesFull};
+ghost use Rattle.addition.specs.declared.short.Short.the-variants.{Beyond};
+ghost use Rattle.addition.specs.SignBytes.{Says};
+ghost use Rattle.binary.specs.Sum.{flips, literalOf};
 
 pub fn add(stack: &mut [u8], depth: &mut usize) -> u8
     ensures { λ r. ⌜ operateOf Shipped (now (stack .entry)) (now (depth .entry)) 15 ≡ (outcome r (now (depth .exit)), now (stack .exit)) ⌝ }
@@ -32,7 +36,7 @@ pub fn subtract(stack: &mut [u8], depth: &mut usize) -> u8
 
 // What the short route answers. A number that is full leaves it to the full route.
 fn short_route(stack: &[u8], depth: usize, flip: u32) -> Short
-    ensures { λ r. ⌜ r ≡ routeOf (flips flip) (numberAt (now (stack .entry)) depth 1) (numberAt (now (stack .entry)) depth 0) ⌝ }
+    ensures { λ r. ⌜ Says (flips flip) (numberAt (now (stack .entry)) depth 1) (numberAt (now (stack .entry)) depth 0) r ⌝ }
 {
     if slots::b1_at(stack, depth, 1) != 0 {
         return Short::Beyond;
@@ -66,6 +70,10 @@ fn sum(stack: &mut [u8], depth: &mut usize, flip: u32, taken: usize, left: usize
             *depth = *depth - taken + left;
             0
         }
+        Short::Exact(word) => {
+            let answer = Answer::Done(Number { b1: 145, word });
+            store(stack, depth, old, answer, taken, left)
+        }
         Short::Beyond => full_route(stack, depth, old, flip, taken, left),
     }
 }
@@ -79,7 +87,7 @@ fn full_route(
     left: usize,
 ) -> u8
     requires { ⌜ ((flip ≡ 0) ⊎ (flip ≡ 2 ^ 31)) × (taken ≡ 2) × (left ≡ 1) × (now depth ≡ old) × (lacking (now stack) old 2 ≡ false)
-        × GoesFull (flips flip) (numberAt (now stack) old 1) (numberAt (now stack) old 0) ⌝ }
+        × Says (flips flip) (numberAt (now stack) old 1) (numberAt (now stack) old 0) Beyond ⌝ }
     ensures { λ r. ⌜ operateOf Shipped (now (stack .entry)) (now (depth .entry)) (literalOf (flips flip)) ≡ (outcome r (now (depth .exit)), now (stack .exit)) ⌝ }
 {
     let a = term(stack, old, 1, 0);

@@ -4,16 +4,16 @@ use Prim.Native.Nat.{ℕ, _+_, _*_, _-_, _^_, _/_, _%_, _≤_, _<_}
 use mathlib.Core.Path.{_≡_, refl, sym, _∙_, ap, ap₂}
 use mathlib.Core.Logic.{_⊎_, inl, inr}
 use mathlib.Core.Bool.{Bool, true, false, cond}
-use native.Mathlib.Nat.{le-trans, mul-assoc, mul-le-mul, mul-le-mul-left, eq-zero-or-pos, mul-zero}
+use native.Mathlib.Nat.{mul-assoc, mul-le-mul, mul-le-mul-left, eq-zero-or-pos, mul-zero}
 use native.Mathlib.Omega.{arith}
 use borrow.Author.Tests.{eq-eqb, ne-eqb, leb-true, leb-false}
 use lib.Dec.{leb, eqb}
-use lib.Count.{leadingZeros, leading-top}
-use lib.Pow.{pow-add, pow-mono, pow-pos}
+use lib.Count.{leadingZeros}
+use lib.Pow.{pow-add, pow-pos}
 use Rattle.number.specs.declared.Number.{Number}
 use Rattle.number.specs.Number.{zeros, sign, mantissa, shortMagnitude}
 use Rattle.number.specs.NumberLaws.{Bytes, magnitude-lt}
-use Rattle.number.specs.LeadingZeros.{top-set, places-are}
+use Rattle.number.specs.LeadingZeros.{top-set, places-are, zeros-of}
 use Rattle.number.specs.Restack.{fullOfShort, restacked}
 use Rattle.number.specs.RestackLaws.{restack-full, restack-some, restack-zero}
 use Rattle.number.specs.RestackValue.{full-of-short}
@@ -79,13 +79,6 @@ at-scaled s p e k h l g =
     at-some s (p * 2 ^ k) (e - k) (omega arith) z refl
     ∙ ap₂ (λ (i j : ℕ). endedProduct s ((i / 2 ^ 31 + 1) / 2) j) all lower
     ∙ sym (at-some s p e (omega arith) (k + z) (places-are 63 p (k + z) h (omega arith) (omega arith) (omega arith)))
-
--- a short number has at least 16 zeros above it
-pub zeros-of : (n : ℕ) → 0 < n → n < 2 ^ 16 → (16 ≤ leadingZeros 32 n) × (leadingZeros 32 n < 32)
-zeros-of n p l =
-    let top = leading-top 32 n p (omega arith) in
-    let small : ¬ (16 ≤ top .0) = λ f. omega (arith, le-trans (pow-mono {i = 16} {j = top .0} f) (top .2)) in
-    omega (arith, top .1)
 
 pub fills : (k n : ℕ) → k < 2 → 0 < n → n < 2 ^ 16 → IsFull (fullOfShort k n)
 unfolding fullOfShort

@@ -10,7 +10,7 @@ use lib.Pow.{pow-add}
 use Rattle.number.specs.declared.Number.{Number}
 use Rattle.number.specs.Number.{number, zeros, sign, malformed, mantissa, shortMagnitude, shortOf}
 use Rattle.number.specs.NumberLaws.{magnitude-lt}
-use Rattle.number.specs.LeadingZeros.{top-set, places-are}
+use Rattle.number.specs.LeadingZeros.{top-set, places-are, zeros-of}
 use Rattle.number.specs.Restack.{fullOfShort, restacked}
 use Rattle.number.specs.RestackLaws.{restack-some}
 use Rattle.number.specs.RestackValue.{full-of-short}
@@ -19,7 +19,7 @@ use Rattle.ending.specs.Ending.{loose, closed}
 use Rattle.ending.specs.EndingLaws.{closed-stored}
 use Rattle.multiplication.specs.declared.product.Product.{Product}
 use Rattle.multiplication.specs.Multiplication.{shortProduct, signOfTwo, taken, restackedProduct, productOf, endedProduct}
-use Rattle.multiplication.specs.Places.{roundedAt, productAt, at-some, at-scaled, zeros-of, fills, at-short}
+use Rattle.multiplication.specs.Places.{roundedAt, productAt, at-some, at-scaled, fills, at-short}
 use Rattle.multiplication.specs.MultiplicationLaws.{product-short, product-beyond, ended-high}
 
 -- what the code answers of two numbers whose b1 is 0

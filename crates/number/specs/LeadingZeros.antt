@@ -87,3 +87,10 @@ module _ (t z : ℕ) (h : t < 2 ^ 32) (c : LeadingZeros t z) where
 
   pub zeros-room : (t ≡ 0 → ⊥) → (t + 1) * 2 ^ z ≤ 2 ^ 32
   zeros-room n = subst (λ (k : ℕ). (t + 1) * 2 ^ k ≤ 2 ^ 32) (sym zeros-are) (top-room 31 t (omega arith) h)
+
+-- a short number has at least 16 zeros above it
+pub zeros-of : (n : ℕ) → 0 < n → n < 2 ^ 16 → (16 ≤ leadingZeros 32 n) × (leadingZeros 32 n < 32)
+zeros-of n p l =
+    let top = leading-top 32 n p (omega arith) in
+    let small : ¬ (16 ≤ top .0) = λ f. omega (arith, le-trans (pow-mono {i = 16} {j = top .0} f) (top .2)) in
+    omega (arith, top .1)

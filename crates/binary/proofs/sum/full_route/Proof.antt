@@ -6,6 +6,7 @@ use mathlib.Core.Logic.{inl}
 use denote.Ref.{now}
 use Rattle.edition.specs.declared.Edition.the-variants.{Shipped}
 use Rattle.number.specs.Number.{malformed}
+use Rattle.addition.specs.SignBytes.{Says}
 use Rattle.slots.specs.Reach.{numberAt}
 use Rattle.literals.specs.Operate.{outcome, operateOf}
 use Rattle.literals.specs.WayLaws.{two-malformed}
@@ -43,6 +44,7 @@ returns-2 c =
     ∙ ap (λ (k : ℕ). (outcome 3 k, s)) (sym (i .pre .3))
 
 returns-3 : tie.Need-returns-3
+unfolding Says
 returns-3 c =
     let p = c .before .before in
     let a = p .before .before .before in
