@@ -191,7 +191,7 @@ module _ (less : Bool) (x y : ℕ) (l : x < 2 ^ 32) (m : y < 2 ^ 32) (f : Formed
   answer-stored h = (
     f .both,
     bytes-stored first other _ _ (sum .byte) (f .first) (split .bytes) (omega arith) (split .sign<) settled refl (split .first) h
-    ∙ ap (λ (w : ℕ). Done (storedOver first (halves (sum .byte) w))) lows,
+        ∙ ap (λ (w : ℕ). Done (storedOver first (halves (sum .byte) w))) lows,
   )
 
   pub answer-beyond : 2 ≤ (sum .byte + 1) % 256 → Says less first (number 0 y) Beyond
@@ -203,7 +203,7 @@ module _ (less : Bool) (x y : ℕ) (l : x < 2 ^ 32) (m : y < 2 ^ 32) (f : Formed
   answer-exact h p q = (
     f .both,
     bytes-exact first other _ _ (sum .byte) (f .first) (split .bytes) (omega arith) (split .sign<) settled refl (split .first) h p (second-some less)
-    ∙ ap (λ (w : ℕ). Done (number 145 (seventeenOf (sum .byte) w))) lows,
+        ∙ ap (λ (w : ℕ). Done (number 145 (seventeenOf (sum .byte) w))) lows,
   )
     where
       -- nor is the second one when it is negated
