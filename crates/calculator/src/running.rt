@@ -3,11 +3,9 @@ use crate::named::run_in;
 use crate::outcome::RunOutcome;
 use crate::outcome::Stop;
 use edition::Edition;
-use literals::table;
 ghost use mathlib.Core.Path.{_≡_};
 ghost use Rattle.edition.specs.Edition.{unnamed};
 ghost use Rattle.edition.specs.declared.Edition.the-variants.{Shipped};
-ghost use Rattle.literals.specs.Operate.{operateOf, outcome};
 ghost use Rattle.calculator.specs.Run.{runOf};
 
 pub fn run(stack: &mut [u8], depth: usize, literals: &[u8]) -> RunOutcome
@@ -48,7 +46,7 @@ fn run_shipped(stack: &mut [u8], depth: usize, literals: &[u8]) -> RunOutcome
                 position,
             };
         }
-        let report = step(stack, &mut current, literals[position]);
+        let report = operation::run_step(stack, &mut current, literals[position]);
         if report != 0 {
             break Stop { report, position };
         }
@@ -58,26 +56,5 @@ fn run_shipped(stack: &mut [u8], depth: usize, literals: &[u8]) -> RunOutcome
         report: stop.report,
         position: stop.position,
         depth: current,
-    }
-}
-
-// The table once more, for the run alone: the compiler then has each small literal inside the loop.
-fn step(stack: &mut [u8], depth: &mut usize, literal: u8) -> u8
-    ensures { λ r. ⌜ operateOf Shipped (now (stack .entry)) (now (depth .entry)) literal ≡ (outcome r (now (depth .exit)), now (stack .exit)) ⌝ }
-{
-    match literal {
-        0 => literals::unknown(stack, *depth),
-        table::EXCHANGE => moving::exchange(stack, depth),
-        table::DELETE => moving::delete(stack, depth),
-        table::SUBTRACT => binary::subtract(stack, depth),
-        table::MULTIPLY => binary::multiply(stack, depth),
-        table::DIVIDE => binary::divide(stack, depth),
-        table::ADD => binary::add(stack, depth),
-        table::NEGATE => unary::negate(stack, depth),
-        table::INT => unary::int(stack, depth),
-        table::DUPLICATE => moving::duplicate(stack, depth),
-        table::TRUNCATE => unary::truncate(stack, depth),
-        table::RE_STACK => unary::re_stack(stack, depth),
-        _ => literals::unknown(stack, *depth),
     }
 }

@@ -1,7 +1,12 @@
 // One operation on the stack: the report that comes first, or the bytes and the depth that the literal leaves.
+mod tables;
+
 use edition::Edition;
 use literals::table;
 use slots::Outcome;
+pub use tables::replay_step;
+pub use tables::run_step;
+pub use tables::run_step_in;
 ghost use mathlib.Core.Path.{_≡_};
 ghost use Rattle.edition.specs.Edition.{unnamed};
 ghost use Rattle.edition.specs.declared.Edition.the-variants.{Shipped};

@@ -1,36 +1,13 @@
 // The step of a record, and whether what it left is the record's.
 use crate::answer::Field;
-use literals::table;
 ghost use Prim.Native.Nat.{_≤_};
 ghost use mathlib.Core.Path.{_≡_};
 ghost use mathlib.Core.Bool.{not};
-ghost use Rattle.edition.specs.declared.Edition.the-variants.{Shipped};
 ghost use Rattle.slots.specs.Push.{pushOf};
-ghost use Rattle.literals.specs.Operate.{operateOf, outcome};
+ghost use Rattle.literals.specs.Operate.{outcome};
 ghost use Rattle.recording.specs.Recording.{topIn, same};
 ghost use Rattle.replaying.specs.Replay.{stepOf, topOf, topDiffers};
 ghost use Rattle.replaying.specs.ReplayLaws.{headDiffers, anyDiffers, firstField};
-
-// The table once more, for the replay alone: the compiler then has each small literal inside its loop, and the calculator's own table stays inside the
-// one call that it is made for.
-fn operate(stack: &mut [u8], depth: &mut usize, literal: u8) -> u8
-    ensures { λ r. ⌜ operateOf Shipped (now (stack .entry)) (now (depth .entry)) literal ≡ (outcome r (now (depth .exit)), now (stack .exit)) ⌝ }
-{
-    match literal {
-        table::EXCHANGE => moving::exchange(stack, depth),
-        table::DELETE => moving::delete(stack, depth),
-        table::SUBTRACT => binary::subtract(stack, depth),
-        table::MULTIPLY => binary::multiply(stack, depth),
-        table::DIVIDE => binary::divide(stack, depth),
-        table::ADD => binary::add(stack, depth),
-        table::NEGATE => unary::negate(stack, depth),
-        table::INT => unary::int(stack, depth),
-        table::DUPLICATE => moving::duplicate(stack, depth),
-        table::TRUNCATE => unary::truncate(stack, depth),
-        table::RE_STACK => unary::re_stack(stack, depth),
-        _ => literals::unknown(stack, *depth),
-    }
-}
 
 // As `moving::push`, but room is one comparison. The bound of the new depth is for the product in `step`.
 fn push(stack: &mut [u8], depth: &mut usize, number: &[u8]) -> u8
@@ -113,7 +90,7 @@ pub(crate) fn step(stack: &mut [u8], depth: &mut usize, bytes: &[u8]) -> Done
             agrees: recording::head_in(bytes) == 65536 * *depth as u32,
         };
     }
-    let report = operate(stack, depth, literal);
+    let report = operation::replay_step(stack, depth, literal);
     if has_head(bytes, report, *depth) {
         return Done {
             report,

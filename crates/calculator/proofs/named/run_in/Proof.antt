@@ -25,7 +25,7 @@ not-over c = sym (c .before .over-limits .ensures) ∙ c .if1 .left
 
 loop-again : tie.Need-loop-again Inv-loop μ-loop
 loop-again c =
-    let step = c .before .before .before .step-in in
+    let step = c .before .before .before .run-step-in in
     let l = c .before .before .before .before .before .before .before .before .loop in
     let k : l .position < length (c .before .before .before .before .before .before .before .before .before .before .before .before .before .before .before .args .literals .now) = omega arith in (
       sym (goes-on _ _ _ _ _ k _ _ (step .ensures) (omega arith)) ∙ l .inv .0,
@@ -35,7 +35,7 @@ loop-again c =
 
 returns-4 : tie.Need-returns-4 Inv-loop μ-loop
 returns-4 c =
-    let step = c .before .before .before .step-in in
+    let step = c .before .before .before .run-step-in in
     let l = c .before .before .before .before .before .before .before .before .loop in
     let k : l .position < length (c .before .before .before .before .before .before .before .before .before .before .before .before .before .before .before .args .literals .now) = omega arith in
     sym (l .inv .0) ∙ stops _ _ _ _ _ k _ _ (step .ensures) (omega arith)
@@ -59,5 +59,5 @@ run-in-spec =
     loop-again
     (λ c. c .before .loop .inv .1)
     (λ c. sym (c .before .loop .inv .0) ∙ at-end _ _ _ _ _ (c .if3 .taken))
-    (λ c. c .before .before .before .step-in .kept .1 .0 ∙ c .before .before .before .before .before .before .before .before .loop .inv .1)
+    (λ c. c .before .before .before .run-step-in .kept .1 .0 ∙ c .before .before .before .before .before .before .before .before .loop .inv .1)
     returns-4)

@@ -32,7 +32,7 @@ returns-3 c =
     let o = c .before .before .before .before .before .before .before in
     let e = o .before .before .before in
     let l = e .before .literal-in .ensures in (
-      step-literal _ _ _ (λ z. e .if1 .left (l ∙ z)) ∙ ap (operateOf _ _ _) (sym l) ∙ o .operate .ensures,
+      step-literal _ _ _ (λ z. e .if1 .left (l ∙ z)) ∙ ap (operateOf _ _ _) (sym l) ∙ o .replay-step .ensures,
       literal-differs _ _ _ _ (c .before .before .before .has-head2 .ensures) (c .before .before .if3 .taken) (λ z. e .if1 .left (l ∙ z)) (c .has-top .ensures),
     )
 
@@ -41,7 +41,7 @@ returns-4 c =
     let o = c .before .before .before .before .before in
     let e = o .before .before .before in
     let l = e .before .literal-in .ensures in (
-      step-literal _ _ _ (λ z. e .if1 .left (l ∙ z)) ∙ ap (operateOf _ _ _) (sym l) ∙ o .operate .ensures,
+      step-literal _ _ _ (λ z. e .if1 .left (l ∙ z)) ∙ ap (operateOf _ _ _) (sym l) ∙ o .replay-step .ensures,
       head-differs _ _ _ _ (c .before .has-head2 .ensures) (c .if3 .left),
     )
 

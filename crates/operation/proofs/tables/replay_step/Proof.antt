@@ -1,12 +1,12 @@
--- `operate` meets its contract: each arm does the literal of its row.
+-- `replay_step` meets its contract: each arm does the literal of its row.
 use borrow.Author.Needs.{needs}
 use mathlib.Core.Path.{_∙_, ap}
 use Rattle.literals.specs.Literals.{rowOf, operationOf}
 use Rattle.literals.specs.Reports.{notInTable}
 use Rattle.literals.specs.Operate.{operateOf}
 use Rattle.literals.specs.OperateLaws.{in-no-row}
-use Rattle.replaying.proofs.steps.operate.Statement.{statement}
-use Rattle.replaying.proofs.steps.operate.Tie as tie
+use Rattle.operation.proofs.tables.replay_step.Statement.{statement}
+use Rattle.operation.proofs.tables.replay_step.Tie as tie
 
 returns-12 : tie.Need-returns-12
 returns-12 c =
@@ -14,9 +14,9 @@ returns-12 c =
     c .unknown .ensures _ _
     (in-no-row _ (r .0 .0 .0 .0 .0 .0 .0 .0 .0 .0 .1) (r .0 .0 .0 .0 .0 .0 .0 .0 .0 .1) (r .0 .0 .0 .0 .0 .0 .0 .0 .1) (r .0 .0 .0 .0 .0 .0 .0 .1) (r .0 .0 .0 .0 .0 .0 .1) (r .0 .0 .0 .0 .0 .1) (r .0 .0 .0 .0 .1) (r .0 .0 .0 .1) (r .0 .0 .1) (r .0 .1) (r .1))
 
-pub operate-spec : {M : Type 1} → statement M
+pub replay-step-spec : {M : Type 1} → statement M
 unfolding notInTable operationOf rowOf
-operate-spec =
+replay-step-spec =
     tie.close
     (tie.spec
     (λ c κs. tt)
