@@ -5,6 +5,7 @@ use mathlib.Core.Logic.{_⊎_, inl, inr}
 use mathlib.Core.Bool.{Bool, true, false, cond}
 use native.Mathlib.Nat.{eq-zero-or-pos, max-comm, div-div-eq-div-mul, add-div-right}
 use native.Mathlib.Omega.{arith}
+use borrow.Author.Tests.{ltb-true, ltb-false}
 use lib.Dec.{ltb}
 use lib.IntN.{ℤ, pos, negsuc, negℤ, natAbs, _+ℤ_, _*ℤ_, +ℤ-comm}
 use lib.Pow.{pow-pos, pow-add}
@@ -49,11 +50,23 @@ aligned-lt k x h =
     go true = omega arith
     go false = shifted-lt (negative x) (natAbs x) k h
 
-pub second-larger : (x y : ℤ) (e f : ℕ) → e ≤ f → signedSum x e y f ≡ endedSum (y +ℤ aligned (f - e) x) f
+second-larger : (x y : ℤ) (e f : ℕ) → e ≤ f → signedSum x e y f ≡ endedSum (y +ℤ aligned (f - e) x) f
 second-larger x y e f h =
     ap (λ (g : ℕ). endedSum (aligned (g - e) x +ℤ aligned (g - f) y) g) (max-comm e f)
     ∙ ap (λ (z : ℤ). endedSum z (max f e)) (+ℤ-comm (aligned (max f e - e) x) (aligned (max f e - f) y))
     ∙ first-larger y x f e h
+
+-- The larger first, by a choice. Twice its exponent byte less both is how far they are apart.
+pub larger-chosen : (x y : ℤ) (e f : ℕ) → signedSum x e y f ≡ endedSum (cond (ltb e f) y x +ℤ aligned (2 * max e f - (e + f)) (cond (ltb e f) x y)) (max e f)
+larger-chosen x y e f = go (ltb e f) refl
+  where
+    go : (b : Bool) → ltb e f ≡ b → signedSum x e y f ≡ endedSum (cond b y x +ℤ aligned (2 * max e f - (e + f)) (cond b x y)) (max e f)
+    go true h =
+        let l = ltb-true e f h in
+        second-larger x y e f (omega arith) ∙ ap₂ (λ (k m : ℕ). endedSum (y +ℤ aligned k x) m) {x = f - e} {y = 2 * max e f - (e + f)} (omega arith) (omega arith)
+    go false h =
+        let l = ltb-false e f h in
+        first-larger x y e f l ∙ ap₂ (λ (k m : ℕ). endedSum (x +ℤ aligned k y) m) {x = e - f} {y = 2 * max e f - (e + f)} (omega arith) (omega arith)
 
 -- A zero moves nothing, and may as well have the exponent byte 1.
 none-moved : (k : ℕ) → aligned k (pos 0) ≡ pos 0

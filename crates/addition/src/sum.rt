@@ -2,7 +2,8 @@
 use ending::Answer;
 use number::Number;
 ghost use mathlib.Core.Path.{_≡_};
-ghost use Prim.Native.Nat.{_+_, _^_, _%_, _≤_, _<_};
+ghost use Prim.Native.Nat.{_+_, _^_, _%_, _≤_, _<_, max};
+ghost use mathlib.Core.Bool.{cond};
 ghost use lib.IntN.{pos, natAbs, _+ℤ_};
 ghost use lib.Signed.{remZ};
 ghost use Rattle.number.specs.Value.{signed};
@@ -77,7 +78,26 @@ fn low_bits(x: i64) -> i64
     x % 4294967296
 }
 
-// Of two mantissas with their signs and their exponent bytes, each the low bits of what is handed over: the compiler knows that there is nothing above.
+fn larger(e: u32, f: u32) -> u32
+    ensures { λ r. ⌜ r ≡ max e f ⌝ }
+{
+    if e < f {
+        return f;
+    }
+    e
+}
+
+fn chosen(first: bool, x: i64, y: i64) -> i64
+    ensures { λ r. ⌜ r ≡ cond first x y ⌝ }
+{
+    if first {
+        return x;
+    }
+    y
+}
+
+// Of two mantissas with their signs and their exponent bytes, each the low bits of what is handed over: the compiler knows that there is nothing above. The larger
+// comes first by choices and not by a jump, since which it is goes by the data. Twice its exponent byte less both is how far they are apart.
 pub fn aligned_sum(x: i64, e: u32, y: i64, f: u32) -> Answer
     ensures { λ r. ⌜ r ≡ signedSum (remZ x (pos 4294967296)) (e % 256) (remZ y (pos 4294967296)) (f % 256) ⌝ }
 {
@@ -85,8 +105,12 @@ pub fn aligned_sum(x: i64, e: u32, y: i64, f: u32) -> Answer
     let n = low_bits(y);
     let first = e % 256;
     let second = f % 256;
-    if first < second {
-        return summed(n, m, second - first, second);
-    }
-    summed(m, n, first - second, first)
+    let late = first < second;
+    let most = larger(first, second);
+    summed(
+        chosen(late, n, m),
+        chosen(late, m, n),
+        2 * most - (first + second),
+        most,
+    )
 }

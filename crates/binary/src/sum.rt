@@ -38,10 +38,10 @@ pub fn subtract(stack: &mut [u8], depth: &mut usize) -> u8
 fn short_route(stack: &[u8], depth: usize, flip: u32) -> Short
     ensures { λ r. ⌜ Says (flips flip) (numberAt (now (stack .entry)) depth 1) (numberAt (now (stack .entry)) depth 0) r ⌝ }
 {
-    if slots::b1_at(stack, depth, 1) != 0 {
+    if slots::b1_at(stack, depth, 0) != 0 {
         return Short::Beyond;
     }
-    if slots::b1_at(stack, depth, 0) != 0 {
+    if slots::b1_at(stack, depth, 1) != 0 {
         return Short::Beyond;
     }
     addition::short_sum(
@@ -90,12 +90,12 @@ fn full_route(
         × Says (flips flip) (numberAt (now stack) old 1) (numberAt (now stack) old 0) Beyond ⌝ }
     ensures { λ r. ⌜ operateOf Shipped (now (stack .entry)) (now (depth .entry)) (literalOf (flips flip)) ≡ (outcome r (now (depth .exit)), now (stack .exit)) ⌝ }
 {
-    let a = term(stack, old, 1, 0);
-    if a.malformed {
-        return 3;
-    }
     let b = term(stack, old, 0, flip);
     if b.malformed {
+        return 3;
+    }
+    let a = term(stack, old, 1, 0);
+    if a.malformed {
         return 3;
     }
     let answer = addition::aligned_sum(a.x, a.e, b.x, b.e);

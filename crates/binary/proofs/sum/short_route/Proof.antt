@@ -9,9 +9,9 @@ short-route-spec =
     tie.close
     (tie.spec
     (λ c κs. tt)
-    (λ c. goes-first _ _ _ (λ e. c .if1 .taken (c .before .b1-at .ensures ∙ e)))
+    (λ c. goes-second _ _ _ (λ e. c .if1 .taken (c .before .b1-at .ensures ∙ e)))
     (λ c κs. tt)
-    (λ c. let d = c .before .before in goes-second _ _ _ (sym (d .before .b1-at .ensures) ∙ d .if1 .left) (λ e. c .if2 .taken (c .before .b1-at2 .ensures ∙ e)))
+    (λ c. goes-first _ _ _ (λ e. c .if2 .taken (c .before .b1-at2 .ensures ∙ e)))
     (λ c κs. tt)
     (λ c κs. tt)
     (λ c κs. tt)
@@ -23,5 +23,5 @@ short-route-spec =
     let u = v .before in
     let t = u .before in
     let d = t .before .before in
-    says-short _ _ _ _ (sym (d .before .before .b1-at .ensures) ∙ d .before .if1 .left) (sym (d .b1-at2 .ensures) ∙ t .before .if2 .left)
+    says-short _ _ _ _ (sym (d .b1-at2 .ensures) ∙ t .before .if2 .left) (sym (d .before .before .b1-at .ensures) ∙ d .before .if1 .left)
     (c .short-sum .ensures _ _ (sym (t .b2-at .ensures)) (sym (u .low-at .ensures)) (sym (v .b2-at2 .ensures)) (sym (w .low-at2 .ensures)))))
