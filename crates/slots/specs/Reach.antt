@@ -23,3 +23,7 @@ numberAt s d k = cond (lacking s d (k + 1)) zeros (numberIn s (d - (k + 1)))
 -- the stack with that number replaced; as it was where there is none
 unfoldable pub putAt : List ℕ → ℕ → ℕ → Number → List ℕ
 putAt s d k n = cond (lacking s d (k + 1)) s (putIn s (d - (k + 1)) n)
+
+-- the stack with its top once more above itself; as it was where there is none, or no room
+unfoldable pub copiedOf : List ℕ → ℕ → List ℕ
+copiedOf s d = cond (lacking s (d + 1) 2) s (putAt s (d + 1) 0 (numberAt s (d + 1) 1))

@@ -1,6 +1,6 @@
 -- What a stack lacks or has, a law a way to find out.
-use Prim.Native.Nat.{ℕ, _+_, _-_, _*_, _≤_, _<_}
-use mathlib.Core.Path.{_≡_, refl, sym, _∙_, ap}
+use Prim.Native.Nat.{ℕ, _+_, _-_, _*_, _^_, _/_, _%_, _≤_, _<_, max}
+use mathlib.Core.Path.{_≡_, refl, sym, _∙_, ap, ap₂}
 use mathlib.Core.Bool.{Bool, true, false, cond, _||_}
 use mathlib.Core.List.{List}
 use native.Mathlib.Omega.{arith}
@@ -14,7 +14,7 @@ use Rattle.slots.specs.Slots.{slot, numberIn, putSlot, putIn}
 use Rattle.slots.specs.SlotLaws.{bytes-of-slot}
 use Rattle.slots.specs.Reports.{overLimits}
 use Rattle.slots.specs.LimitLaws.{Within, within, within-of, over-depth}
-use Rattle.slots.specs.Reach.{lacking, numberAt, putAt}
+use Rattle.slots.specs.Reach.{lacking, numberAt, putAt, copiedOf}
 
 module _ (s : List ℕ) (d n : ℕ) where
   pub lacking-over : overLimits s d ≡ true → lacking s d n ≡ true
@@ -83,3 +83,35 @@ number-bytes s d k b = go (lacking s d (k + 1))
     go : (t : Bool) → Bytes (cond t zeros (numberIn s (d - (k + 1))))
     go true = record { b1< = omega arith; word< = omega arith }
     go false = record { b1< = b i; word< = omega (arith, b (i + 1), b (i + 2), b (i + 3), b (i + 4)) }
+
+-- ---- the top once more above itself
+
+module _ (s : List ℕ) (d : ℕ) where
+  pub copied-nowhere : lacking s (d + 1) 2 ≡ true → copiedOf s d ≡ s
+  unfolding copiedOf
+  copied-nowhere h = simp h
+
+  pub copied-at : lacking s (d + 1) 2 ≡ false → copiedOf s d ≡ putAt s (d + 1) 0 (numberAt s (d + 1) 1)
+  unfolding copiedOf
+  copied-at h = simp h
+
+  pub copied-there : lacking s (d + 1) 2 ≡ false → copiedOf s d ≡ putIn s d (numberIn s (d - 1))
+  copied-there h =
+      let y = has s (d + 1) 2 h in
+      let below : d + 1 - 2 ≡ d - 1 = omega arith in
+      let above : d + 1 - 1 ≡ d = omega arith in
+      copied-at h
+      ∙ put-there s (d + 1) 0 (numberAt s (d + 1) 1) (enough s (d + 1) 1 (y .0) (omega arith))
+      ∙ ap₂ (putIn s) above (number-at s (d + 1) 1 h ∙ ap (numberIn s) below)
+
+  -- by the slot of the top, r, which wraps where there is none, and how many numbers there may be below one more
+  module _ (r m : ℕ) (l : length s ≤ 16000) (e : (r + 1) % 2 ^ 64 ≡ d) (g : r < 2 ^ 64) (h : m ≡ max 5 (length s)) where
+    pub no-copy : m / 5 - 1 ≤ r → lacking s (d + 1) 2 ≡ true
+    no-copy i = go (lacking s (d + 1) 2) refl
+      where
+        go : (b : Bool) → lacking s (d + 1) 2 ≡ b → b ≡ true
+        go true j = refl
+        go false j = let y = has s (d + 1) 2 j in absurd (omega (arith, y .0 .deep, y .1))
+
+    pub copies : r < m / 5 - 1 → lacking s (d + 1) 2 ≡ false
+    copies i = enough s (d + 1) 2 (record { short = l; deep = omega arith }) (omega arith)

@@ -9,6 +9,7 @@ pub use limits::over_limits;
 pub use outcome::Outcome;
 pub use places::b1_at;
 pub use places::b2_at;
+pub use places::copy_top;
 pub use places::low_at;
 pub use places::malformed_at;
 pub use places::put_at;

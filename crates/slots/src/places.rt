@@ -4,12 +4,13 @@ use crate::reach::lacks;
 use crate::reach::lacks_top;
 use number::Number;
 ghost use mathlib.Core.Path.{_≡_};
-ghost use Prim.Native.Nat.{_+_, _*_, _≤_};
+ghost use mathlib.Core.Bool.{not};
+ghost use Prim.Native.Nat.{_+_, _*_, _≤_, max};
 ghost use lib.ListN.{length};
 ghost use Rattle.number.specs.Number.{number as numberOf, b2, low, malformed, halves, storedOver, swappedOf};
 ghost use Rattle.slots.specs.Slots.{putIn};
 ghost use Rattle.slots.specs.SlotLaws.{fourIn, putFour};
-ghost use Rattle.slots.specs.Reach.{numberAt, putAt};
+ghost use Rattle.slots.specs.Reach.{lacking, numberAt, putAt, copiedOf};
 
 // b2 to b5 the other way round, as the machine holds a word: the compiler reads them at once.
 fn four_in(stack: &[u8], slot: usize) -> u32
@@ -157,4 +158,32 @@ pub fn put_top(stack: &mut [u8], depth: usize, b1: u8, word: u32)
         return;
     }
     put_in(stack, depth - 1, Number { b1, word });
+}
+
+fn at_least_five(len: usize) -> usize
+    ensures { λ r. ⌜ r ≡ max 5 len ⌝ }
+{
+    if len < 5 {
+        return 5;
+    }
+    len
+}
+
+// The top once more above itself, and whether there was one, and room. That is one comparison too, of a bound that is computed once for a stack that is asked over
+// and over.
+pub fn copy_top(stack: &mut [u8], depth: usize) -> bool
+    ensures { λ r. ⌜ (not r ≡ lacking (now (stack .entry)) (depth + 1) 2) × (now (stack .exit) ≡ copiedOf (now (stack .entry)) depth) ⌝ }
+{
+    let len = stack.len();
+    if 16000 < len {
+        return false;
+    }
+    if at_least_five(len) / 5 - 1 <= std::num::wrapping_sub_usize(depth, 1) {
+        return false;
+    }
+    let slot = depth - 1;
+    let b1 = stack[5 * slot];
+    let word = number::swapped(four_in(stack, slot));
+    put_in(stack, depth, Number { b1, word });
+    true
 }
