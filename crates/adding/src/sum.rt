@@ -38,17 +38,17 @@ pub fn subtract(stack: &mut [u8], depth: &mut usize) -> u8
 fn short_route(stack: &[u8], depth: usize, flip: u32) -> Short
     ensures { λ r. ⌜ Says (flips flip) (numberAt (now (stack .entry)) depth 1) (numberAt (now (stack .entry)) depth 0) r ⌝ }
 {
-    if slots::b1_at(stack, depth, 1) != 0 {
+    if places::b1_at(stack, depth, 1) != 0 {
         return Short::Beyond;
     }
-    if slots::b1_at(stack, depth, 0) != 0 {
+    if places::b1_at(stack, depth, 0) != 0 {
         return Short::Beyond;
     }
     addition::short_sum(
-        slots::b2_at(stack, depth, 1),
-        slots::low_at(stack, depth, 1),
-        slots::b2_at(stack, depth, 0),
-        slots::low_at(stack, depth, 0),
+        places::b2_at(stack, depth, 1),
+        places::low_at(stack, depth, 1),
+        places::b2_at(stack, depth, 0),
+        places::low_at(stack, depth, 0),
         flip != 0,
     )
 }
@@ -66,7 +66,7 @@ fn sum(stack: &mut [u8], depth: &mut usize, flip: u32, taken: usize, left: usize
     match short {
         Short::Malformed => 3,
         Short::Stored(byte, low) => {
-            slots::put_halves_at(stack, old, 1, byte, low);
+            places::put_halves_at(stack, old, 1, byte, low);
             *depth = *depth - taken + left;
             0
         }

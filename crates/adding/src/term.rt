@@ -29,9 +29,9 @@ pub(crate) fn term(stack: &[u8], depth: usize, above: u8, flip: u32) -> Summand
     requires { ⌜ (flip ≡ 0) ⊎ (flip ≡ 2 ^ 31) ⌝ }
     ensures { λ r. ⌜ (r ≡ termOf (flips flip) (numberAt (now (stack .entry)) depth above)) × (r .e < 256) ⌝ }
 {
-    let b1 = slots::b1_at(stack, depth, above);
+    let b1 = places::b1_at(stack, depth, above);
     if b1 != 0 {
-        let word = slots::word_at(stack, depth, above);
+        let word = places::word_at(stack, depth, above);
         return Summand {
             malformed: false,
             x: signed(
@@ -41,7 +41,7 @@ pub(crate) fn term(stack: &[u8], depth: usize, above: u8, flip: u32) -> Summand
             e: b1 as u32,
         };
     }
-    let o = number::short_operand(slots::word_at(stack, depth, above));
+    let o = number::short_operand(places::word_at(stack, depth, above));
     if o.malformed {
         return Summand {
             malformed: true,

@@ -34,14 +34,14 @@ fn divided(stack: &mut [u8], depth: &mut usize, old: usize, sign: u32, m: u32, e
     requires { ⌜ First (now stack) (now depth) old sign m e ⌝ }
     ensures { λ r. ⌜ operateOf Shipped (now (stack .entry)) (now (depth .entry)) 5 ≡ (outcome r (now (depth .exit)), now (stack .exit)) ⌝ }
 {
-    let b1 = slots::b1_at(stack, old, 0);
+    let b1 = places::b1_at(stack, old, 0);
     if b1 != 0 {
-        let word = slots::word_at(stack, old, 0);
+        let word = places::word_at(stack, old, 0);
         return quotient(stack, depth, old, sign, m, e, word, word, b1 as u32);
     }
     let b = number::operand_of(
-        slots::b2_at(stack, old, 0) as u32,
-        slots::low_at(stack, old, 0),
+        places::b2_at(stack, old, 0) as u32,
+        places::low_at(stack, old, 0),
     );
     if b.malformed {
         return 3;

@@ -66,7 +66,7 @@ pub fn divide(edition: Edition, stack: &mut [u8], depth: &mut usize) -> u8
     let answer = division::division(edition, a.sign, a.m, a.e, b.sign, b.m, b.e);
     match answer {
         Answer::Done(n) => {
-            slots::put_at(stack, old, 1, n.b1, n.word);
+            places::put_at(stack, old, 1, n.b1, n.word);
             *depth = old - table::DIVIDE_TAKES + table::DIVIDE_LEAVES;
             0
         }

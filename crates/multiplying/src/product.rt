@@ -28,10 +28,10 @@ pub fn multiply(stack: &mut [u8], depth: &mut usize) -> u8
 fn both_short(stack: &[u8], depth: usize) -> bool
     ensures { λ r. ⌜ r ≡ bothShort (numberAt (now (stack .entry)) depth 1) (numberAt (now (stack .entry)) depth 0) ⌝ }
 {
-    if slots::b1_at(stack, depth, 1) != 0 {
+    if places::b1_at(stack, depth, 1) != 0 {
         return false;
     }
-    if slots::b1_at(stack, depth, 0) != 0 {
+    if places::b1_at(stack, depth, 0) != 0 {
         return false;
     }
     true
@@ -43,10 +43,10 @@ fn short_route(stack: &mut [u8], depth: &mut usize, old: usize) -> u8
     ensures { λ r. ⌜ operateOf Shipped (now (stack .entry)) (now (depth .entry)) 4 ≡ (outcome r (now (depth .exit)), now (stack .exit)) ⌝ }
 {
     let product = multiplication::short_product(
-        slots::b2_at(stack, old, 1) as u32,
-        slots::low_at(stack, old, 1),
-        slots::b2_at(stack, old, 0) as u32,
-        slots::low_at(stack, old, 0),
+        places::b2_at(stack, old, 1) as u32,
+        places::low_at(stack, old, 1),
+        places::b2_at(stack, old, 0) as u32,
+        places::low_at(stack, old, 0),
     );
     if product.malformed {
         return 3;
@@ -81,8 +81,8 @@ fn short_by_full(stack: &[u8], depth: usize, above: u8, word: u32, b1: u8) -> Fa
     ensures { λ r. ⌜ Factored (number b1 word) (numberAt (now (stack .entry)) depth above) r ⌝ }
 {
     let short = number::magnitude_of(
-        slots::b2_at(stack, depth, above) as u32,
-        slots::low_at(stack, depth, above),
+        places::b2_at(stack, depth, above) as u32,
+        places::low_at(stack, depth, above),
     );
     Factors {
         malformed: short.malformed,
@@ -98,9 +98,9 @@ fn by_full(stack: &[u8], depth: usize, word: u32, b1: u8) -> Factors
     requires { ⌜ (b1 ≡ 0 → ⊥) ⌝ }
     ensures { λ r. ⌜ Factored (number b1 word) (numberAt (now (stack .entry)) depth 0) r ⌝ }
 {
-    let c1 = slots::b1_at(stack, depth, 0);
+    let c1 = places::b1_at(stack, depth, 0);
     if c1 != 0 {
-        let other = slots::word_at(stack, depth, 0);
+        let other = places::word_at(stack, depth, 0);
         return Factors {
             malformed: false,
             sign: word ^ other,
@@ -117,13 +117,13 @@ fn factored(stack: &[u8], depth: usize) -> Factors
     requires { ⌜ bothShort (numberAt (now stack) depth 1) (numberAt (now stack) depth 0) ≡ false ⌝ }
     ensures { λ r. ⌜ Factored (numberAt (now (stack .entry)) depth 1) (numberAt (now (stack .entry)) depth 0) r ⌝ }
 {
-    let b1 = slots::b1_at(stack, depth, 1);
+    let b1 = places::b1_at(stack, depth, 1);
     if b1 != 0 {
-        let word = slots::word_at(stack, depth, 1);
+        let word = places::word_at(stack, depth, 1);
         return by_full(stack, depth, word, b1);
     }
-    let c1 = slots::b1_at(stack, depth, 0);
-    let other = slots::word_at(stack, depth, 0);
+    let c1 = places::b1_at(stack, depth, 0);
+    let other = places::word_at(stack, depth, 0);
     short_by_full(stack, depth, 1, other, c1)
 }
 

@@ -7,9 +7,9 @@ ghost use Rattle.slots.specs.Reach.{numberAt};
 pub fn operand(stack: &[u8], depth: usize, above: u8) -> Operand
     ensures { λ r. ⌜ Unpacks (numberAt (now (stack .entry)) depth above) r ⌝ }
 {
-    let b1 = slots::b1_at(stack, depth, above);
+    let b1 = places::b1_at(stack, depth, above);
     if b1 != 0 {
-        let word = slots::word_at(stack, depth, above);
+        let word = places::word_at(stack, depth, above);
         return Operand {
             malformed: false,
             sign: word,
@@ -18,7 +18,7 @@ pub fn operand(stack: &[u8], depth: usize, above: u8) -> Operand
         };
     }
     number::operand_of(
-        slots::b2_at(stack, depth, above) as u32,
-        slots::low_at(stack, depth, above),
+        places::b2_at(stack, depth, above) as u32,
+        places::low_at(stack, depth, above),
     )
 }

@@ -20,7 +20,7 @@ pub fn store(
 {
     match answer {
         Answer::Done(n) => {
-            slots::put_at(stack, old, 1, n.b1, n.word);
+            places::put_at(stack, old, 1, n.b1, n.word);
             *depth = std::num::wrapping_add_usize(
                 std::num::wrapping_sub_usize(*depth, taken),
                 left,

@@ -4,11 +4,11 @@ use mathlib.Core.Path.{_≡_, sym, _∙_, ap}
 use mathlib.Core.Bool.{false}
 use native.Mathlib.Omega.{arith}
 use Rattle.number.specs.Number.{low}
 use Rattle.slots.specs.SlotLaws.{parts-in}
 use Rattle.slots.specs.Reach.{lacking}
 use Rattle.slots.specs.ReachLaws.{has, none-at, number-at}
-use Rattle.slots.proofs.places.low_at.Statement.{statement}
-use Rattle.slots.proofs.places.low_at.Tie as tie
+use Rattle.places.proofs.low_at.Statement.{statement}
+use Rattle.places.proofs.low_at.Tie as tie
 
 there : (c : tie.Else1) → lacking (c .before .before .before .args .stack .now) (c .before .before .before .args .depth) (c .before .before .before .args .above + 1) ≡ false
 there c = sym (c .before .lacks .ensures) ∙ c .if1 .left

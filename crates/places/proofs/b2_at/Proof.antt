@@ -2,10 +2,10 @@
 use mathlib.Core.Path.{sym, _∙_, ap}
 use native.Mathlib.Omega.{arith}
 use Rattle.number.specs.Number.{b2}
 use Rattle.slots.specs.SlotLaws.{parts-in}
 use Rattle.slots.specs.ReachLaws.{has, none-at, number-at}
-use Rattle.slots.proofs.places.b2_at.Statement.{statement}
-use Rattle.slots.proofs.places.b2_at.Tie as tie
+use Rattle.places.proofs.b2_at.Statement.{statement}
+use Rattle.places.proofs.b2_at.Tie as tie
 
 returns-2 : tie.Need-returns-2
 returns-2 c =

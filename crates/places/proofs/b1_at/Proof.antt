@@ -3,10 +3,10 @@ use Prim.Native.Nat.{ℕ}
 use mathlib.Core.Path.{sym, _∙_, ap}
 use native.Mathlib.Omega.{arith}
 use Rattle.number.specs.declared.Number.{Number}
 use Rattle.slots.specs.Slots.{numberIn}
 use Rattle.slots.specs.ReachLaws.{has, none-at, number-at}
-use Rattle.slots.proofs.places.b1_at.Statement.{statement}
-use Rattle.slots.proofs.places.b1_at.Tie as tie
+use Rattle.places.proofs.b1_at.Statement.{statement}
+use Rattle.places.proofs.b1_at.Tie as tie
 
 abbrev b1 : Number → ℕ
 b1 n = n .b1

@@ -2,9 +2,9 @@
 use borrow.Author.Needs.{needs}
 use mathlib.Core.Path.{sym, _∙_}
 use native.Mathlib.Omega.{arith}
 use Rattle.slots.specs.ReachLaws.{has, put-nowhere, put-there}
-use Rattle.slots.proofs.places.put_at.Statement.{statement}
-use Rattle.slots.proofs.places.put_at.Tie as tie
+use Rattle.places.proofs.put_at.Statement.{statement}
+use Rattle.places.proofs.put_at.Tie as tie
 
 returns-2 : tie.Need-returns-2
 returns-2 c =

@@ -4,10 +4,10 @@ use mathlib.Core.Path.{sym, _∙_, ap}
 use native.Mathlib.Omega.{arith}
 use Rattle.number.specs.declared.Number.{Number}
 use Rattle.number.specs.Number.{swappedOf}
 use Rattle.slots.specs.SlotLaws.{four-word}
 use Rattle.slots.specs.ReachLaws.{has, none-at, number-at}
-use Rattle.slots.proofs.places.top_four.Statement.{statement}
-use Rattle.slots.proofs.places.top_four.Tie as tie
+use Rattle.places.proofs.top_four.Statement.{statement}
+use Rattle.places.proofs.top_four.Tie as tie
 
 abbrev word : Number → ℕ
 word n = n .word

@@ -3,8 +3,8 @@ use mathlib.Core.Path.{refl}
 use native.Mathlib.Omega.{arith}
 use borrow.Author.Needs.{needs}
 use lib.ListN.{length-set}
-use Rattle.slots.proofs.places.put_four.Statement.{statement}
-use Rattle.slots.proofs.places.put_four.Tie as tie
+use Rattle.places.proofs.put_four.Statement.{statement}
+use Rattle.places.proofs.put_four.Tie as tie
 
 pub put-four-spec : {M : Type 1} → statement M
 put-four-spec =

@@ -9,11 +9,11 @@ use lib.Dec.{eqb}
 use lib.ListN.{getD}
 use Rattle.number.specs.Number.{malformed}
 use Rattle.number.specs.FormLaws.{malformed-full, malformed-short, malformed-between, malformed-negative}
 use Rattle.slots.specs.Slots.{numberIn}
 use Rattle.slots.specs.Reach.{lacking, numberAt}
 use Rattle.slots.specs.ReachLaws.{has, none-at, number-at}
-use Rattle.slots.proofs.places.malformed_at.Statement.{statement}
-use Rattle.slots.proofs.places.malformed_at.Tie as tie
+use Rattle.places.proofs.malformed_at.Statement.{statement}
+use Rattle.places.proofs.malformed_at.Tie as tie
 
 module _ (s : List ℕ) (d k : ℕ) (l : lacking s d (k + 1) ≡ false) where
   abbrev byte : ℕ → ℕ

@@ -1,15 +1,15 @@
 // Where the bytes of a number stand: slot i is bytes 5i to 5i+4. A number is asked for by how many stand above it: none above the top, one
 // above the lower operand. Where the stack lacks it, it reads as zero and nothing is written; a caller that has asked `lacks` pays nothing for that.
-use crate::reach::lacks;
-use crate::reach::lacks_top;
 use number::Number;
+use slots::lacks;
+use slots::lacks_top;
 ghost use mathlib.Core.Path.{_≡_};
 ghost use Prim.Native.Nat.{_+_, _*_, _≤_};
 ghost use lib.ListN.{length};
 ghost use Rattle.number.specs.Number.{number as numberOf, b2, low, malformed, halves, storedOver, swappedOf};
 ghost use Rattle.slots.specs.Slots.{putIn};
 ghost use Rattle.slots.specs.SlotLaws.{fourIn, putFour};
 ghost use Rattle.slots.specs.Reach.{numberAt, putAt};
 
 // b2 to b5 the other way round, as the machine holds a word: the compiler reads them at once.
 fn four_in(stack: &[u8], slot: usize) -> u32

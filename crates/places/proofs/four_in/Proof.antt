@@ -1,7 +1,7 @@
 -- `four_in` meets its contract: the four bytes, joined.
 use native.Mathlib.Omega.{arith}
-use Rattle.slots.proofs.places.four_in.Statement.{statement}
-use Rattle.slots.proofs.places.four_in.Tie as tie
+use Rattle.places.proofs.four_in.Statement.{statement}
+use Rattle.places.proofs.four_in.Tie as tie
 
 pub four-in-spec : {M : Type 1} → statement M
 four-in-spec =

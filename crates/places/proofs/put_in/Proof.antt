@@ -4,9 +4,9 @@ use mathlib.Core.Path.{_∙_, ap}
 use mathlib.Core.List.{List}
 use native.Mathlib.Omega.{arith}
 use lib.ListN.{set, length-set}
 use Rattle.slots.specs.SlotLaws.{putFour, put-swapped}
-use Rattle.slots.proofs.places.put_in.Statement.{statement}
-use Rattle.slots.proofs.places.put_in.Tie as tie
+use Rattle.places.proofs.put_in.Statement.{statement}
+use Rattle.places.proofs.put_in.Tie as tie
 
 returns : tie.Need-returns
 returns c =

@@ -7,12 +7,12 @@ use native.Mathlib.Omega.{arith}
 use lib.ListN.{length-set}
 use Rattle.number.specs.declared.Number.{Number}
 use Rattle.number.specs.Number.{halves, storedOver}
 use Rattle.slots.specs.Slots.{putIn}
 use Rattle.slots.specs.SlotLaws.{put-halves}
 use Rattle.slots.specs.Reach.{lacking}
 use Rattle.slots.specs.ReachLaws.{has, number-at, put-nowhere, put-there}
-use Rattle.slots.proofs.places.put_halves_at.Statement.{statement}
-use Rattle.slots.proofs.places.put_halves_at.Tie as tie
+use Rattle.places.proofs.put_halves_at.Statement.{statement}
+use Rattle.places.proofs.put_halves_at.Tie as tie
 
 there : (c : tie.Else1) → (let a = c .before .before .before .before .args in lacking (a .stack .now) (a .depth) (a .above + 1) ≡ false)
 there c = sym (c .before .lacks .ensures) ∙ c .if1 .left
