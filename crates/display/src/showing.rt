@@ -40,7 +40,7 @@ pub fn cell(report: u8, stack: &[u8], depth: usize) -> Cell
         return nothing(stack, depth);
     }
     show(Number {
-        b1: slots::b1_at(stack, depth, 0),
-        word: slots::word_at(stack, depth, 0),
+        b1: places::b1_at(stack, depth, 0),
+        word: places::word_at(stack, depth, 0),
     })
 }

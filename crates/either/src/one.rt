@@ -47,8 +47,8 @@ fn taken_top(edition: Edition, stack: &[u8], depth: usize) -> bool
     match edition {
         Edition::Shipped => false,
         Edition::Mended => truncation::is_taken_65536(Number {
-            b1: slots::b1_at(stack, depth, 0),
-            word: slots::word_at(stack, depth, 0),
+            b1: places::b1_at(stack, depth, 0),
+            word: places::word_at(stack, depth, 0),
         }),
     }
 }
@@ -57,8 +57,8 @@ fn taken_top(edition: Edition, stack: &[u8], depth: usize) -> bool
 fn int_top(stack: &mut [u8], depth: usize)
     ensures { λ _. ⌜ now (stack .exit) ≡ intTop (now (stack .entry)) depth ⌝ }
 {
-    if slots::word_at(stack, depth, 0) != 2147483648 {
-        slots::put_at(stack, depth, 0, 145, 2147516416);
+    if places::word_at(stack, depth, 0) != 2147483648 {
+        places::put_at(stack, depth, 0, 145, 2147516416);
     }
 }
 

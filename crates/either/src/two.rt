@@ -13,7 +13,7 @@ pub fn add(edition: Edition, stack: &mut [u8], depth: &mut usize) -> u8
     if odd_pair(edition, stack, *depth) {
         return 3;
     }
-    let report = binary::add(stack, depth);
+    let report = adding::add(stack, depth);
     if report != 0 {
         return report;
     }
@@ -27,7 +27,7 @@ pub fn subtract(edition: Edition, stack: &mut [u8], depth: &mut usize) -> u8
     if odd_pair(edition, stack, *depth) {
         return 3;
     }
-    let report = binary::subtract(stack, depth);
+    let report = adding::subtract(stack, depth);
     if report != 0 {
         return report;
     }
@@ -41,7 +41,7 @@ pub fn multiply(edition: Edition, stack: &mut [u8], depth: &mut usize) -> u8
     if odd_pair(edition, stack, *depth) {
         return 3;
     }
-    binary::multiply(stack, depth)
+    multiplying::multiply(stack, depth)
 }
 
 // By the operands' own quotient: what is left of it decides how the mended edition rounds.
@@ -55,18 +55,18 @@ pub fn divide(edition: Edition, stack: &mut [u8], depth: &mut usize) -> u8
     if slots::lacks(stack, old, table::DIVIDE_TAKES) {
         return slots::refusal(stack, old, table::DIVIDE_TAKES);
     }
-    let a = binary::operand(stack, old, 1);
+    let a = operands::operand(stack, old, 1);
     if a.malformed {
         return 3;
     }
-    let b = binary::operand(stack, old, 0);
+    let b = operands::operand(stack, old, 0);
     if b.malformed {
         return 3;
     }
     let answer = division::division(edition, a.sign, a.m, a.e, b.sign, b.m, b.e);
     match answer {
         Answer::Done(n) => {
-            slots::put_at(stack, old, 1, n.b1, n.word);
+            places::put_at(stack, old, 1, n.b1, n.word);
             *depth = old - table::DIVIDE_TAKES + table::DIVIDE_LEAVES;
             0
         }

@@ -11,12 +11,12 @@ pub fn exchange(stack: &mut [u8], depth: &usize) -> u8
     if slots::lacks_at(stack, depth, table::EXCHANGE_TAKES) {
         return slots::refusal(stack, old, table::EXCHANGE_TAKES);
     }
-    let lower1 = slots::b1_at(stack, old, 1);
-    let lower = slots::word_at(stack, old, 1);
-    let top1 = slots::b1_at(stack, old, 0);
-    let top = slots::word_at(stack, old, 0);
-    slots::put_at(stack, old, 1, top1, top);
-    slots::put_at(stack, old, 0, lower1, lower);
+    let lower1 = places::b1_at(stack, old, 1);
+    let lower = places::word_at(stack, old, 1);
+    let top1 = places::b1_at(stack, old, 0);
+    let top = places::word_at(stack, old, 0);
+    places::put_at(stack, old, 1, top1, top);
+    places::put_at(stack, old, 0, lower1, lower);
     0
 }
 
@@ -40,9 +40,9 @@ pub fn duplicate(stack: &mut [u8], depth: &mut usize) -> u8
     if slots::lacks(stack, after, table::DUPLICATE_LEAVES) {
         return slots::refusal(stack, old, table::DUPLICATE_TAKES);
     }
-    let b1 = slots::b1_at(stack, after, 1);
-    let word = slots::word_at(stack, after, 1);
-    slots::put_at(stack, after, 0, b1, word);
+    let b1 = places::b1_at(stack, after, 1);
+    let word = places::word_at(stack, after, 1);
+    places::put_at(stack, after, 0, b1, word);
     *depth = after;
     0
 }

@@ -19,7 +19,7 @@ pub fn duplicate_in_loop(stack: &mut [u8], depth: &mut usize) -> u8
     ensures { λ r. ⌜ ((ed : Edition) → operateOf ed (now (stack .entry)) (now (depth .entry)) 49 ≡ (outcome r (now (depth .exit)), now (stack .exit))) ⌝ }
 {
     let old = *depth;
-    if slots::copy_top(stack, old) {
+    if places::copy_top(stack, old) {
         *depth = old - table::DUPLICATE_TAKES + table::DUPLICATE_LEAVES;
         return 0;
     }

@@ -18,12 +18,12 @@ pub fn push(stack: &mut [u8], depth: usize, number: &[u8]) -> Outcome
     if number.len() != 5 {
         return Outcome { report: 3, depth };
     }
-    if slots::malformed_at(number, 1, 0) {
+    if places::malformed_at(number, 1, 0) {
         return Outcome { report: 3, depth };
     }
-    let b1 = slots::b1_at(number, 1, 0);
-    let word = slots::word_at(number, 1, 0);
-    slots::put_at(stack, after, 0, b1, word);
+    let b1 = places::b1_at(number, 1, 0);
+    let word = places::word_at(number, 1, 0);
+    places::put_at(stack, after, 0, b1, word);
     Outcome {
         report: 0,
         depth: after,

@@ -8,10 +8,10 @@ ghost use Rattle.odd.specs.Mending.{oddIn, oddPair, mendedTop};
 fn odd_at(stack: &[u8], depth: usize, above: u8) -> bool
     ensures { λ r. ⌜ r ≡ odd (numberAt (now (stack .entry)) depth above) ⌝ }
 {
-    if slots::b1_at(stack, depth, above) != 0 {
+    if places::b1_at(stack, depth, above) != 0 {
         return false;
     }
-    slots::word_at(stack, depth, above) / 256 == 16711680
+    places::word_at(stack, depth, above) / 256 == 16711680
 }
 
 pub fn odd_top(edition: Edition, stack: &[u8], depth: usize) -> bool
@@ -45,6 +45,6 @@ pub fn mend_top(edition: Edition, stack: &mut [u8], depth: usize)
     ensures { λ _. ⌜ now (stack .exit) ≡ mendedTop edition (now (stack .entry)) depth ⌝ }
 {
     if odd_top(edition, stack, depth) {
-        slots::put_at(stack, depth, 0, 145, 2147483648);
+        places::put_at(stack, depth, 0, 145, 2147483648);
     }
 }

@@ -22,12 +22,12 @@ fn push(stack: &mut [u8], depth: &mut usize, number: &[u8]) -> u8
     if number.len() != 5 {
         return 3;
     }
-    if slots::malformed_at(number, 1, 0) {
+    if places::malformed_at(number, 1, 0) {
         return 3;
     }
-    let b1 = slots::b1_at(number, 1, 0);
-    let word = slots::word_at(number, 1, 0);
-    slots::put_top(stack, after, b1, word);
+    let b1 = places::b1_at(number, 1, 0);
+    let word = places::word_at(number, 1, 0);
+    places::put_top(stack, after, b1, word);
     *depth = after;
     0
 }
@@ -49,10 +49,10 @@ fn has_top(stack: &[u8], depth: usize, bytes: &[u8]) -> bool
     if five.len() != 5 {
         return false;
     }
-    if slots::top_b1(stack, depth) != slots::top_b1(five, 1) {
+    if places::top_b1(stack, depth) != places::top_b1(five, 1) {
         return false;
     }
-    slots::top_four(stack, depth) == slots::top_four(five, 1)
+    places::top_four(stack, depth) == places::top_four(five, 1)
 }
 
 // Not asked of a push.

@@ -1,7 +1,0 @@
--- `at_least_five` meets its contract.
-use native.Mathlib.Omega.{arith}
-use Rattle.slots.proofs.places.at_least_five.Statement.{statement}
-use Rattle.slots.proofs.places.at_least_five.Tie as tie
-
-pub at-least-five-spec : {M : Type 1} → statement M
-at-least-five-spec = tie.close (tie.spec (λ c. omega arith) (λ c. omega arith))
