@@ -1,6 +1,5 @@
 // The fields of a record. A byte that it lacks reads as 0; a caller whose record has 16 bytes pays nothing for that.
 ghost use mathlib.Core.Path.{_≡_};
-ghost use Prim.Native.Nat.{_+_, _*_};
 ghost use lib.ListN.{getD};
 ghost use Rattle.recording.specs.Recording.{literalIn, reportIn, depthIn, topIn};
 
@@ -32,17 +31,6 @@ pub fn depth_in(bytes: &[u8]) -> usize
     let low = byte(bytes, 2);
     let high = byte(bytes, 3);
     low as usize + 256 * high as usize
-}
-
-// Literal, report and depth as one number, low byte first: the compiler reads the four bytes at once.
-pub fn head_in(bytes: &[u8]) -> u32
-    ensures { λ r. ⌜ r ≡ literalIn (now (bytes .entry)) + 256 * reportIn (now (bytes .entry)) + 65536 * depthIn (now (bytes .entry)) ⌝ }
-{
-    let literal = byte(bytes, 0);
-    let report = byte(bytes, 1);
-    let low = byte(bytes, 2);
-    let high = byte(bytes, 3);
-    literal as u32 + 256 * report as u32 + 65536 * low as u32 + 16777216 * high as u32
 }
 
 pub fn top_in(bytes: &[u8]) -> &[u8]

@@ -3,7 +3,6 @@ mod fields;
 mod whole;
 
 pub use fields::depth_in;
-pub use fields::head_in;
 pub use fields::literal_in;
 pub use fields::report_in;
 pub use fields::top_in;

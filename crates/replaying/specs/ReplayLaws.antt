@@ -70,24 +70,6 @@ module _ (x : List ℕ) (report d : ℕ) (s : List ℕ) where
     unfolding anyDiffers
     literal-differs e l q = ap not q ∙ top-of-literal x s d l ∙ ap (λ (t : Bool). t || topDiffers x s d) (ap not (sym e) ∙ h)
 
--- the head of a push that was done, as one number
-pub push-head : (x : List ℕ) (d h : ℕ) → literalIn x ≡ 0 → reportIn x < 256 → h ≡ literalIn x + 256 * reportIn x + 65536 * depthIn x
-    → not (eqb h (65536 * d)) ≡ headDiffers x 0 d
-unfolding headDiffers
-push-head x d h l b e = go (eqb h (65536 * d)) refl
-  where
-    other : (h ≡ 65536 * d → ⊥) → (t : Bool) → eqb 0 (reportIn x) ≡ t → true ≡ not t || depthDiffers x d
-    other n true i = let z = eqb-true 0 (reportIn x) i in sym (simp (ne-eqb d (depthIn x) (λ y. n (omega arith))))
-    other n false i = refl
-
-    go : (t : Bool) → eqb h (65536 * d) ≡ t → not t ≡ reportDiffers x 0 || depthDiffers x d
-    go true i =
-        let z = eqb-true h (65536 * d) i in
-        let p : h / 65536 ≡ depthIn x = omega arith in
-        let q : h / 65536 ≡ d = omega arith in
-        sym (simp (eq-eqb 0 (reportIn x) (omega arith), eq-eqb d (depthIn x) (omega arith)))
-    go false i = other (eqb-false h (65536 * d) i) (eqb 0 (reportIn x)) refl
-
 -- the rest of a replay, by how many bytes are left
 abbrev pub goOnWith : List ℕ → ℕ → List ℕ → ℕ → Replayed × List ℕ
 goOnWith r left s d = goOn (left / 16) (drop (length r - left) r) ((length r - left) / 16) s d

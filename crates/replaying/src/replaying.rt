@@ -2,6 +2,7 @@
 use crate::answer::Replayed;
 use crate::answer::Verdict;
 use crate::steps;
+use crate::steps::Held;
 ghost use mathlib.Core.Path.{_≡_};
 ghost use Rattle.replaying.specs.Replay.{refused, replayOf};
 
@@ -38,15 +39,17 @@ pub fn replay(stack: &mut [u8], recording: &[u8]) -> Replayed
         }
         let at = len - left;
         let here = &recording[at..at + 16];
-        let done = steps::step(stack, &mut depth, here);
-        let report = done.report;
-        if !done.agrees {
-            let field = steps::first_difference(here, report, depth);
-            break Replayed {
-                verdict: Verdict::Differ(at / 16, field),
-                report,
-                depth,
-            };
+        let held = steps::step(stack, &mut depth, here);
+        match held {
+            Held::Agrees => {}
+            Held::Differs(report) => {
+                let field = steps::first_difference(here, report, depth);
+                break Replayed {
+                    verdict: Verdict::Differ(at / 16, field),
+                    report,
+                    depth,
+                };
+            }
         }
         left -= 16;
     }

@@ -1,18 +1,18 @@
 // The step of a record, and whether what it left is the record's.
 use crate::answer::Field;
-ghost use Prim.Native.Nat.{_≤_};
+use edition::Edition;
 ghost use mathlib.Core.Path.{_≡_};
 ghost use mathlib.Core.Bool.{not};
 ghost use Rattle.slots.specs.Push.{pushOf};
 ghost use Rattle.literals.specs.Operate.{outcome};
-ghost use Rattle.recording.specs.Recording.{topIn, same};
-ghost use Rattle.replaying.specs.Replay.{stepOf, topOf, topDiffers};
-ghost use Rattle.replaying.specs.ReplayLaws.{headDiffers, anyDiffers, firstField};
+ghost use Rattle.recording.specs.Recording.{literalIn, topIn, same};
+ghost use Rattle.replaying.specs.Replay.{topOf, topDiffers};
+ghost use Rattle.replaying.specs.ReplayLaws.{headDiffers, firstField};
+ghost use Rattle.replaying.specs.HeldLaws.{heldBy, Holds};
 
-// As `moving::push`, but room is one comparison. The bound of the new depth is for the product in `step`.
+// As `moving::push`, but room is one comparison.
 fn push(stack: &mut [u8], depth: &mut usize, number: &[u8]) -> u8
-    ensures { λ r. ⌜ (pushOf (now (stack .entry)) (now (depth .entry)) (now (number .entry)) ≡ (outcome r (now (depth .exit)), now (stack .exit)))
-        × (r ≡ 0 → now (depth .exit) ≤ 3200) ⌝ }
+    ensures { λ r. ⌜ pushOf (now (stack .entry)) (now (depth .entry)) (now (number .entry)) ≡ (outcome r (now (depth .exit)), now (stack .exit)) ⌝ }
 {
     let old = *depth;
     let after = std::num::wrapping_add_usize(old, 1);
@@ -65,42 +65,64 @@ pub fn top_differs(stack: &[u8], depth: usize, bytes: &[u8]) -> bool
     !has_top(stack, depth, bytes)
 }
 
-pub(crate) struct Done {
-    pub report: u8,
-    pub agrees: bool,
+// What a step left, held to its record.
+pub(crate) enum Held {
+    Agrees,
+    // The step's report.
+    Differs(u8),
 }
 
-// A push for literal 0, and else the literal; and whether the record agrees. Where a push is done, its record's literal and report are 0: one comparison
-// is all.
-pub(crate) fn step(stack: &mut [u8], depth: &mut usize, bytes: &[u8]) -> Done
-    ensures { λ r. ⌜ (stepOf (now (stack .entry)) (now (depth .entry)) (now (bytes .entry)) ≡ (outcome (r .report) (now (depth .exit)), now (stack .exit)))
-        × (not (r .agrees) ≡ anyDiffers (now (bytes .entry)) (r .report) (now (depth .exit)) (now (stack .exit))) ⌝ }
+fn by_head(bytes: &[u8], report: u8, depth: usize) -> Held
+    ensures { λ r. ⌜ r ≡ heldBy (headDiffers (now (bytes .entry)) report depth) report ⌝ }
+{
+    if has_head(bytes, report, depth) {
+        return Held::Agrees;
+    }
+    Held::Differs(report)
+}
+
+// Of a record that has a refusal. It goes by another table, so that the question stands between the one for a push and the table below: the compiler would else make an
+// entry of the table of a push, which half of all records are.
+fn refused(stack: &mut [u8], depth: &mut usize, bytes: &[u8], literal: u8) -> Held
+    requires { ⌜ (literal ≡ literalIn (now bytes)) × (literal ≡ 0 → ⊥) ⌝ }
+    ensures { λ r. ⌜ Holds (now (stack .entry)) (now (depth .entry)) (now (bytes .entry)) r (now (depth .exit)) (now (stack .exit)) ⌝ }
+{
+    let report = operation::operate_in_place_in(Edition::Shipped, stack, depth, literal);
+    if has_head(bytes, report, *depth) {
+        if has_top(stack, *depth, bytes) {
+            return Held::Agrees;
+        }
+        return Held::Differs(report);
+    }
+    Held::Differs(report)
+}
+
+// A push for literal 0, and else the literal; and whether the record agrees. The question is asked apart where a push is done: its report is then 0 there.
+pub(crate) fn step(stack: &mut [u8], depth: &mut usize, bytes: &[u8]) -> Held
+    ensures { λ r. ⌜ Holds (now (stack .entry)) (now (depth .entry)) (now (bytes .entry)) r (now (depth .exit)) (now (stack .exit)) ⌝ }
 {
     let literal = recording::literal_in(bytes);
     if literal == 0 {
         let report = push(stack, depth, recording::top_in(bytes));
         if report != 0 {
-            return Done {
-                report,
-                agrees: has_head(bytes, report, *depth),
-            };
+            return by_head(bytes, report, *depth);
         }
-        return Done {
-            report: 0,
-            agrees: recording::head_in(bytes) == 65536 * *depth as u32,
-        };
+        return by_head(bytes, report, *depth);
+    }
+    if recording::report_in(bytes) != 0 {
+        return refused(stack, depth, bytes, literal);
     }
     let report = operation::replay_step(stack, depth, literal);
-    if has_head(bytes, report, *depth) {
-        return Done {
-            report,
-            agrees: has_top(stack, *depth, bytes),
-        };
+    if report != 0 {
+        return Held::Differs(report);
     }
-    Done {
-        report,
-        agrees: false,
+    if *depth != recording::depth_in(bytes) {
+        return Held::Differs(0);
     }
+    if has_top(stack, *depth, bytes) {
+        return Held::Agrees;
+    }
+    Held::Differs(0)
 }
 
 // Which field it is, of a record that does not agree.

@@ -7,6 +7,7 @@ use native.Mathlib.Omega.{arith}
 use lib.ListN.{length}
 use Rattle.recording.specs.RecordingLaws.{whole-records}
 use Rattle.replaying.specs.Replay.{replayOf}
+use Rattle.replaying.specs.HeldLaws.{held-agrees, held-differs}
 use Rattle.replaying.specs.ReplayLaws.{goOnWith, at-end, turn-differs, turn-agrees, replay-over, replay-refused, replay-starts}
 use Rattle.replaying.proofs.replaying.replay.Statement.{statement}
 use Rattle.replaying.proofs.replaying.replay.Tie as tie
@@ -27,8 +28,8 @@ loop-again c =
     let a = c .before .before .before .before in
     let l = a .before .before .before .before .before .loop in
     let r = a .before .before .before .before .before .before .before .before .before .before .before .before .before .args .recording .now in
-    let given = rw add-sub-cancel-left at (a .step .ensures) in (
-      sym (turn-agrees r (l .left) _ _ (omega arith) (omega arith) _ _ (given .0) (sym (c .if4 .left) ∙ given .1)) ∙ l .inv .0,
+    let given = held-agrees _ _ _ _ _ _ (rw add-sub-cancel-left at (a .step .ensures)) (c .enum-told .given .1) in (
+      sym (turn-agrees r (l .left) _ _ (omega arith) (omega arith) _ _ (given .0) (given .1)) ∙ l .inv .0,
       a .step .kept .0 ∙ l .inv .1,
       omega arith,
       omega arith,
@@ -36,12 +37,12 @@ loop-again c =
 
 returns-4 : tie.Need-returns-4 Inv-loop μ-loop
 returns-4 c =
-    let a = c .before .before .before .before .before in
+    let a = c .before .before .before .before .before .before in
     let l = a .before .before .before .before .before .loop in
     let r = a .before .before .before .before .before .before .before .before .before .before .before .before .before .args .recording .now in
-    let given = rw add-sub-cancel-left at (a .step .ensures) in
+    let given = held-differs _ _ _ _ _ _ _ (rw add-sub-cancel-left at (a .step .ensures)) (c .before .before .held .given .1) in
     sym (l .inv .0)
-    ∙ turn-differs r (l .left) _ _ (omega arith) (omega arith) _ _ (given .0) (sym (c .before .if4 .taken) ∙ given .1) (rw add-sub-cancel-left at (c .first-difference .ensures))
+    ∙ turn-differs r (l .left) _ _ (omega arith) (omega arith) _ _ (given .0) (given .1) (rw add-sub-cancel-left at (c .first-difference .ensures))
 
 pub replay-spec : {M : Type 1} → statement M
 replay-spec =
@@ -67,11 +68,13 @@ replay-spec =
     (λ c. omega arith)
     (λ c. omega arith)
     (λ c κs. tt)
+    (λ c. search needs)
+    (λ c. search needs)
     (λ c κs. tt)
     (λ c. omega arith)
     (λ c. omega arith)
     loop-again
     (λ c. c .before .loop .inv .1)
     (λ c. sym (c .before .loop .inv .0) ∙ at-end (c .before .before .before .before .before .before .before .before .before .args .recording .now) _ _ _ (c .if3 .taken))
-    (λ c. let a = c .before .before .before .before .before in a .step .kept .0 ∙ a .before .before .before .before .before .loop .inv .1)
+    (λ c. let a = c .before .before .before .before .before .before in a .step .kept .0 ∙ a .before .before .before .before .before .loop .inv .1)
     returns-4)

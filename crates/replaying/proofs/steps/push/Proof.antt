@@ -16,20 +16,10 @@ use Rattle.literals.specs.Operate.{outcome}
 use Rattle.replaying.proofs.steps.push.Statement.{statement}
 use Rattle.replaying.proofs.steps.push.Tie as tie
 
--- a refusal has a number
-not-done : (s : List ℕ) (d n : ℕ) → refusalOf s d n ≡ 0 → ⊥
-unfolding refusalOf
-not-done s d n h = go (overLimits s d) (ltb d n) h
-  where
-    go : (a b : Bool) → _≡_ {A = ℕ} (cond a 1 (cond b 2 4)) 0 → ⊥
-    go true b e = omega arith
-    go false true e = omega arith
-    go false false e = omega arith
-
 returns : tie.Need-returns
 returns c =
     let t = c .before .before in
-    (push-lacking _ _ _ (t .before .before .before .wrapping-add-usize .ensures) _ (sym (t .before .lacks-top .ensures) ∙ t .if1 .taken) _ (c .refusal .ensures), (λ z. absurd (not-done _ _ _ (sym (c .refusal .ensures) ∙ z))))
+    push-lacking _ _ _ (t .before .before .before .wrapping-add-usize .ensures) _ (sym (t .before .lacks-top .ensures) ∙ t .if1 .taken) _ (c .refusal .ensures)
 
 room : (c : tie.Else1) → Room (c .before .before .before .before .before .before .before .args .stack .now) (c .before .before .before .before .before .before .before .args .depth .now) (c .before .before .before .wrapping-add-usize .result) (c .before .before .before .wrapping-add-usize .ensures)
 room c =
@@ -39,7 +29,7 @@ returns-3 : tie.Need-returns-3
 returns-3 c =
     let f = c .before .before in
     let r = room (f .before) in
-    (push-malformed _ _ _ (r .limits) (r .fits) (f .if2 .left) (sym (alone _ (f .if2 .left)) ∙ sym (c .before .malformed-at .ensures) ∙ c .if3 .taken), (λ z. omega (arith, z)))
+    push-malformed _ _ _ (r .limits) (r .fits) (f .if2 .left) (sym (alone _ (f .if2 .left)) ∙ sym (c .before .malformed-at .ensures) ∙ c .if3 .taken)
 
 returns-4 : tie.Need-returns-4
 returns-4 c =
@@ -51,13 +41,11 @@ returns-4 c =
     let r = room e in
     let i = c .before .before .before .before .before .before .before .before .before .before .before .before .before .before .before .before in
     let has-slot = sym (e .before .lacks-top .ensures) ∙ e .if1 .left in
-    let put = p .put-top .ensures ∙ ap (putAt (i .args .stack .now) _ 0) (ap₂ number (w .before .b1-at .ensures) (w .word-at .ensures)) in (
-      pushed _ _ _ (r .limits) (r .fits) (f .if2 .left) (sym (alone _ (f .if2 .left)) ∙ sym (m .before .malformed-at .ensures) ∙ m .if3 .left)
-          ∙ ap₂ (λ (d : ℕ) (t : List ℕ). (outcome 0 d, t)) (sym (r .next))
-          (ap (λ (k : ℕ). putSlot (i .args .stack .now) k (i .args .number .now)) (r .slot)
-          ∙ sym (put ∙ put-alone _ _ _ has-slot (f .if2 .left) (λ k. omega (arith, c .before .before .before .before .before .before .before .before .before .before .before .before .before .before .shared-slice-known .given k)))),
-      (λ z. omega (arith, has _ _ _ has-slot)),
-    )
+    let put = p .put-top .ensures ∙ ap (putAt (i .args .stack .now) _ 0) (ap₂ number (w .before .b1-at .ensures) (w .word-at .ensures)) in
+    pushed _ _ _ (r .limits) (r .fits) (f .if2 .left) (sym (alone _ (f .if2 .left)) ∙ sym (m .before .malformed-at .ensures) ∙ m .if3 .left)
+    ∙ ap₂ (λ (d : ℕ) (t : List ℕ). (outcome 0 d, t)) (sym (r .next))
+    (ap (λ (k : ℕ). putSlot (i .args .stack .now) k (i .args .number .now)) (r .slot)
+    ∙ sym (put ∙ put-alone _ _ _ has-slot (f .if2 .left) (λ k. omega (arith, c .before .before .before .before .before .before .before .before .before .before .before .before .before .before .shared-slice-known .given k))))
 
 pub push-spec : {M : Type 1} → statement M
 push-spec =
@@ -69,7 +57,7 @@ push-spec =
     (λ c. search needs)
     returns
     (λ c. search needs)
-    (λ c. let r = room (c .before) in (push-not-five _ _ _ (r .limits) (r .fits) (c .if2 .taken), (λ z. omega (arith, z))))
+    (λ c. let r = room (c .before) in push-not-five _ _ _ (r .limits) (r .fits) (c .if2 .taken))
     (λ c κs. tt)
     (λ c. search needs)
     returns-3
