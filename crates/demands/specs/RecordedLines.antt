@@ -9,7 +9,7 @@ use Rattle.text.specs.Put.{Text, before}
 use Rattle.slots.specs.Slots.{bytesOf}
 use Rattle.sheet.specs.declared.meaning.Line.{Line}
 use Rattle.sheet.specs.declared.meaning.Line.the-variants.{Nothing, Push, Literal, Named, Unreadable}
-use Rattle.sheet.specs.Blanks.{toldOf}
+use Rattle.words.specs.Blanks.{toldOf}
 use Rattle.sheet.specs.Line.{lineOf}
 use Rattle.replaying.specs.declared.answer.Verdict.the-variants.{Agree}
 use Rattle.replaying.specs.Replay.{replayOf}

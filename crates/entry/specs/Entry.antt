@@ -15,7 +15,7 @@ use Rattle.slots.specs.View.{viewOf}
 use Rattle.literals.specs.Operate.{operateOf}
 use Rattle.sheet.specs.declared.meaning.Line.{Line}
 use Rattle.sheet.specs.declared.meaning.Line.the-variants.{Nothing, Push, Literal, Named, Unreadable}
-use Rattle.sheet.specs.Blanks.{toldOf, trimmed}
+use Rattle.words.specs.Blanks.{toldOf, trimmed}
 use Rattle.sheet.specs.Line.{lineOf}
 use Rattle.recording.specs.Recording.{zeros}
 use Rattle.replaying.specs.Replay.{topOf}

@@ -10,7 +10,7 @@ use Rattle.text.specs.Put.{Text, before, putsOf, puts-after, puts-whole}
 use Rattle.number.specs.declared.Number.{Number}
 use Rattle.slots.specs.declared.outcome.Outcome.{Outcome}
 use Rattle.slots.specs.Slots.{bytesOf}
-use Rattle.sheet.specs.Blanks.{toldOf, trimmed}
+use Rattle.words.specs.Blanks.{toldOf, trimmed}
 use Rattle.sheet.specs.Line.{lineOf}
 use Rattle.wording.specs.Wording.{placeOf}
 use Rattle.wording.specs.Room.{fault-length, place-length}

@@ -8,7 +8,7 @@ use Rattle.text.specs.Put.{Text, before, puts-length}
 use Rattle.slots.specs.Slots.{bytesOf}
 use Rattle.sheet.specs.declared.meaning.Line.{Line}
 use Rattle.sheet.specs.declared.meaning.Line.the-variants.{Nothing, Push, Literal, Named, Unreadable}
-use Rattle.sheet.specs.Blanks.{toldOf}
+use Rattle.words.specs.Blanks.{toldOf}
 use Rattle.sheet.specs.Line.{lineOf}
 use Rattle.replaying.specs.Made.{Step, push, literal, doneBy, recordOf, recordingOf}
 use Rattle.entry.specs.Complaint.{whyNot, isTaken, has-room, no-zero}
