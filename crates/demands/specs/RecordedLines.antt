@@ -14,7 +14,7 @@ use Rattle.sheet.specs.Line.{lineOf}
 use Rattle.replaying.specs.declared.answer.Verdict.the-variants.{Agree}
 use Rattle.replaying.specs.Replay.{replayOf}
 use Rattle.replaying.specs.Made.{Step, recordingOf}
-use Rattle.entry.specs.Complaint.{whyNot, isTaken, no-zero}
+use Rattle.reasons.specs.Complaint.{whyNot, isTaken, no-zero}
 use Rattle.entry.specs.Entry.{Kept}
 use Rattle.entry.specs.Room.{taken}
 use Rattle.entry.specs.Taking.{andStep, stepsOf, Taking, none, more, taken-recording, taken-length}

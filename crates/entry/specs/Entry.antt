@@ -20,8 +20,8 @@ use Rattle.sheet.specs.Line.{lineOf}
 use Rattle.recording.specs.Recording.{zeros}
 use Rattle.replaying.specs.Replay.{topOf}
 use Rattle.replaying.specs.Made.{Step, push, literal, doneBy, recordWith, recordOf}
-use Rattle.entry.specs.declared.why.Why.{Why}
-use Rattle.entry.specs.Complaint.{whyNot, isTaken, complaintOf}
+use Rattle.reasons.specs.declared.why.Why.{Why}
+use Rattle.reasons.specs.Complaint.{whyNot, isTaken, complaintOf}
 
 -- "the top slot after (..; zeros at depth 0)"
 unfoldable pub fiveOf : List ℕ → List ℕ

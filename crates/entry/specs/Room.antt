@@ -16,9 +16,9 @@ use Rattle.wording.specs.Wording.{placeOf}
 use Rattle.wording.specs.Room.{fault-length, place-length}
 use Rattle.replaying.specs.TopLaws.{top-long}
 use Rattle.replaying.specs.Made.{Step, push, literal, doneBy, recordOf}
-use Rattle.entry.specs.declared.why.Why.{Why}
-use Rattle.entry.specs.declared.why.Why.the-variants.{None, Unread, Mended, Zero, Full}
-use Rattle.entry.specs.Complaint.{whyNot, isTaken, whyText, complaintOf}
+use Rattle.reasons.specs.declared.why.Why.{Why}
+use Rattle.reasons.specs.declared.why.Why.the-variants.{None, Unread, Mended, Zero, Full}
+use Rattle.reasons.specs.Complaint.{whyNot, isTaken, whyText, complaintOf}
 use Rattle.entry.specs.Entry.{Kept, stepKept, saidKept, lineRecorded}
 
 -- the record of a step that a line says has sixteen bytes

@@ -11,7 +11,7 @@ use Rattle.sheet.specs.declared.meaning.Line.the-variants.{Nothing, Push, Liter
 use Rattle.words.specs.Blanks.{toldOf}
 use Rattle.sheet.specs.Line.{lineOf}
 use Rattle.replaying.specs.Made.{Step, push, literal, doneBy, recordOf, recordingOf}
-use Rattle.entry.specs.Complaint.{whyNot, isTaken, has-room, no-zero}
+use Rattle.reasons.specs.Complaint.{whyNot, isTaken, has-room, no-zero}
 use Rattle.entry.specs.Entry.{Kept, stepKept, saidKept, lineRecorded}
 use Rattle.entry.specs.Room.{push-long, literal-long, record-whole, taken, as-said}
 

@@ -2,8 +2,8 @@
 use borrow.Author.Needs.{needs}
 use mathlib.Core.Path.{refl}
 use Rattle.text.specs.Put.{puts-then}
-use Rattle.entry.proofs.complaints.put_complaint.Statement.{statement}
-use Rattle.entry.proofs.complaints.put_complaint.Tie as tie
+use Rattle.reasons.proofs.complaints.put_complaint.Statement.{statement}
+use Rattle.reasons.proofs.complaints.put_complaint.Tie as tie
 
 pub put-complaint-spec : {M : Type 1} → statement M
 put-complaint-spec =

@@ -1,9 +1,9 @@
 -- `why_not` meets its contract: its arms are the definition's.
 use borrow.Author.Needs.{needs}
 use borrow.Author.Tests.{eq-eqb, ne-eqb}
-use Rattle.entry.specs.Complaint.{whyNot}
-use Rattle.entry.proofs.complaints.why_not.Statement.{statement}
-use Rattle.entry.proofs.complaints.why_not.Tie as tie
+use Rattle.reasons.specs.Complaint.{whyNot}
+use Rattle.reasons.proofs.complaints.why_not.Statement.{statement}
+use Rattle.reasons.proofs.complaints.why_not.Tie as tie
 
 pub why-not-spec : {M : Type 1} → statement M
 unfolding whyNot

@@ -1,8 +1,8 @@
 -- `is_taken` meets its contract: its arms are the definition's.
 use borrow.Author.Needs.{needs}
-use Rattle.entry.specs.Complaint.{isTaken}
-use Rattle.entry.proofs.complaints.is_taken.Statement.{statement}
-use Rattle.entry.proofs.complaints.is_taken.Tie as tie
+use Rattle.reasons.specs.Complaint.{isTaken}
+use Rattle.reasons.proofs.complaints.is_taken.Statement.{statement}
+use Rattle.reasons.proofs.complaints.is_taken.Tie as tie
 
 pub is-taken-spec : {M : Type 1} → statement M
 unfolding isTaken

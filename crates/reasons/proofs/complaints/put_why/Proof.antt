@@ -2,9 +2,9 @@
 use borrow.Author.Needs.{needs}
 use mathlib.Core.Path.{refl}
 use Rattle.text.specs.Put.{putsOf}
-use Rattle.entry.specs.Complaint.{whyText}
-use Rattle.entry.proofs.complaints.put_why.Statement.{statement}
-use Rattle.entry.proofs.complaints.put_why.Tie as tie
+use Rattle.reasons.specs.Complaint.{whyText}
+use Rattle.reasons.proofs.complaints.put_why.Statement.{statement}
+use Rattle.reasons.proofs.complaints.put_why.Tie as tie
 
 pub put-why-spec : {M : Type 1} → statement M
 unfolding whyText putsOf

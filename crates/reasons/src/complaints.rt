@@ -4,7 +4,7 @@ use edition::Edition;
 use sheet::Line;
 ghost use mathlib.Core.Path.{_≡_};
 ghost use Rattle.text.specs.Put.{putsOf};
-ghost use Rattle.entry.specs.Complaint.{whyFull, whyEdition, whyNot, isTaken, whyText, complaintOf};
+ghost use Rattle.reasons.specs.Complaint.{whyFull, whyEdition, whyNot, isTaken, whyText, complaintOf};
 
 // Whether 64,000 bytes have room for a record more.
 fn why_full(end: usize) -> Why
@@ -26,7 +26,7 @@ fn why_edition(edition: Edition) -> Why
     }
 }
 
-pub(crate) fn why_not(said: Line, end: usize) -> Why
+pub fn why_not(said: Line, end: usize) -> Why
     ensures { λ r. ⌜ r ≡ whyNot said end ⌝ }
 {
     match said {
@@ -43,7 +43,7 @@ pub(crate) fn why_not(said: Line, end: usize) -> Why
     }
 }
 
-pub(crate) fn is_taken(why: Why) -> bool
+pub fn is_taken(why: Why) -> bool
     ensures { λ r. ⌜ r ≡ isTaken why ⌝ }
 {
     match why {
@@ -71,7 +71,7 @@ fn put_why(out: &mut [u8], at: usize, why: Why) -> usize
     }
 }
 
-pub(crate) fn put_complaint(out: &mut [u8], number: u64, text: &[u8], why: Why) -> usize
+pub fn put_complaint(out: &mut [u8], number: u64, text: &[u8], why: Why) -> usize
     ensures { λ r. ⌜ (now (out .exit), r) ≡ putsOf (now (out .entry), 0) (complaintOf number (now (text .entry)) why) ⌝ }
 {
     let place = wording::put_place(out, b"record: line ", number, text);

@@ -12,8 +12,8 @@ use Rattle.edition.specs.declared.Edition.the-variants.{Shipped, Mended}
 use Rattle.sheet.specs.declared.meaning.Line.{Line}
 use Rattle.sheet.specs.declared.meaning.Line.the-variants.{Nothing, Push, Literal, Named, Unreadable}
 use Rattle.wording.specs.Wording.{faultOf, placeOf}
-use Rattle.entry.specs.declared.why.Why.{Why}
-use Rattle.entry.specs.declared.why.Why.the-variants.{None, Unread, Mended as NotShipped, Zero, Full}
+use Rattle.reasons.specs.declared.why.Why.{Why}
+use Rattle.reasons.specs.declared.why.Why.the-variants.{None, Unread, Mended as NotShipped, Zero, Full}
 
 -- a recording has at most 64,000 bytes, of which a record takes 16
 unfoldable pub whyFull : ℕ → Why

@@ -1,7 +1,7 @@
 // Why a line can't be taken.
 use sheet::Fault;
 
-pub(crate) enum Why {
+pub enum Why {
     // It can.
     None,
     Unread(Fault),

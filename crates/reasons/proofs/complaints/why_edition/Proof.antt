@@ -1,8 +1,8 @@
 -- `why_edition` meets its contract: its arms are the definition's.
 use borrow.Author.Needs.{needs}
-use Rattle.entry.specs.Complaint.{whyEdition}
-use Rattle.entry.proofs.complaints.why_edition.Statement.{statement}
-use Rattle.entry.proofs.complaints.why_edition.Tie as tie
+use Rattle.reasons.specs.Complaint.{whyEdition}
+use Rattle.reasons.proofs.complaints.why_edition.Statement.{statement}
+use Rattle.reasons.proofs.complaints.why_edition.Tie as tie
 
 pub why-edition-spec : {M : Type 1} → statement M
 unfolding whyEdition
