@@ -9,12 +9,12 @@ use Rattle.text.specs.Put.{Text, before}
 use Rattle.slots.specs.Slots.{bytesOf}
 use Rattle.sheet.specs.declared.meaning.Line.{Line}
 use Rattle.sheet.specs.declared.meaning.Line.the-variants.{Nothing, Push, Literal, Named, Unreadable}
-use Rattle.sheet.specs.Blanks.{toldOf}
+use Rattle.words.specs.Blanks.{toldOf}
 use Rattle.sheet.specs.Line.{lineOf}
 use Rattle.replaying.specs.declared.answer.Verdict.the-variants.{Agree}
 use Rattle.replaying.specs.Replay.{replayOf}
 use Rattle.replaying.specs.Made.{Step, recordingOf}
-use Rattle.entry.specs.Complaint.{whyNot, isTaken, no-zero}
+use Rattle.reasons.specs.Complaint.{whyNot, isTaken, no-zero}
 use Rattle.entry.specs.Entry.{Kept}
 use Rattle.entry.specs.Room.{taken}
 use Rattle.entry.specs.Taking.{andStep, stepsOf, Taking, none, more, taken-recording, taken-length}

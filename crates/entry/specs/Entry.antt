@@ -15,13 +15,13 @@ use Rattle.slots.specs.View.{viewOf}
 use Rattle.literals.specs.Operate.{operateOf}
 use Rattle.sheet.specs.declared.meaning.Line.{Line}
 use Rattle.sheet.specs.declared.meaning.Line.the-variants.{Nothing, Push, Literal, Named, Unreadable}
-use Rattle.sheet.specs.Blanks.{toldOf, trimmed}
+use Rattle.words.specs.Blanks.{toldOf, trimmed}
 use Rattle.sheet.specs.Line.{lineOf}
 use Rattle.recording.specs.Recording.{zeros}
 use Rattle.replaying.specs.Replay.{topOf}
 use Rattle.replaying.specs.Made.{Step, push, literal, doneBy, recordWith, recordOf}
-use Rattle.entry.specs.declared.why.Why.{Why}
-use Rattle.entry.specs.Complaint.{whyNot, isTaken, complaintOf}
+use Rattle.reasons.specs.declared.why.Why.{Why}
+use Rattle.reasons.specs.Complaint.{whyNot, isTaken, complaintOf}
 
 -- "the top slot after (..; zeros at depth 0)"
 unfoldable pub fiveOf : List ℕ → List ℕ

@@ -1,4 +1,3 @@
-pub mod Complaint
 pub mod Entry
 pub mod Room
 pub mod Taking

@@ -10,15 +10,15 @@ use Rattle.text.specs.Put.{Text, before, putsOf, puts-after, puts-whole}
 use Rattle.number.specs.declared.Number.{Number}
 use Rattle.slots.specs.declared.outcome.Outcome.{Outcome}
 use Rattle.slots.specs.Slots.{bytesOf}
-use Rattle.sheet.specs.Blanks.{toldOf, trimmed}
+use Rattle.words.specs.Blanks.{toldOf, trimmed}
 use Rattle.sheet.specs.Line.{lineOf}
 use Rattle.wording.specs.Wording.{placeOf}
 use Rattle.wording.specs.Room.{fault-length, place-length}
 use Rattle.replaying.specs.TopLaws.{top-long}
 use Rattle.replaying.specs.Made.{Step, push, literal, doneBy, recordOf}
-use Rattle.entry.specs.declared.why.Why.{Why}
-use Rattle.entry.specs.declared.why.Why.the-variants.{None, Unread, Mended, Zero, Full}
-use Rattle.entry.specs.Complaint.{whyNot, isTaken, whyText, complaintOf}
+use Rattle.reasons.specs.declared.why.Why.{Why}
+use Rattle.reasons.specs.declared.why.Why.the-variants.{None, Unread, Mended, Zero, Full}
+use Rattle.reasons.specs.Complaint.{whyNot, isTaken, whyText, complaintOf}
 use Rattle.entry.specs.Entry.{Kept, stepKept, saidKept, lineRecorded}
 
 -- the record of a step that a line says has sixteen bytes

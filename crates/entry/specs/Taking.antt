@@ -8,10 +8,10 @@ use Rattle.text.specs.Put.{Text, before, puts-length}
 use Rattle.slots.specs.Slots.{bytesOf}
 use Rattle.sheet.specs.declared.meaning.Line.{Line}
 use Rattle.sheet.specs.declared.meaning.Line.the-variants.{Nothing, Push, Literal, Named, Unreadable}
-use Rattle.sheet.specs.Blanks.{toldOf}
+use Rattle.words.specs.Blanks.{toldOf}
 use Rattle.sheet.specs.Line.{lineOf}
 use Rattle.replaying.specs.Made.{Step, push, literal, doneBy, recordOf, recordingOf}
-use Rattle.entry.specs.Complaint.{whyNot, isTaken, has-room, no-zero}
+use Rattle.reasons.specs.Complaint.{whyNot, isTaken, has-room, no-zero}
 use Rattle.entry.specs.Entry.{Kept, stepKept, saidKept, lineRecorded}
 use Rattle.entry.specs.Room.{push-long, literal-long, record-whole, taken, as-said}
 

@@ -1,5 +1,4 @@
 // One line of a sheet, from its number, the stack, the depth and the recording so far to what it leaves of them, or to what is wrong with it.
-use crate::complaints;
 use crate::records;
 ghost use mathlib.Core.Path.{_≡_};
 ghost use Rattle.entry.specs.Entry.{lineRecorded};
@@ -25,8 +24,8 @@ pub fn record_line(
 {
     let told = sheet::told(line, number);
     let said = sheet::line_of(told);
-    let why = complaints::why_not(said, end);
-    if complaints::is_taken(why) {
+    let why = reasons::why_not(said, end);
+    if reasons::is_taken(why) {
         let kept = records::record_step(stack, depth, said, recording, end);
         return Recorded {
             depth: kept.depth,
@@ -37,6 +36,6 @@ pub fn record_line(
     Recorded {
         depth,
         end,
-        err: complaints::put_complaint(err, number, sheet::trimmed(told), why),
+        err: reasons::put_complaint(err, number, sheet::trimmed(told), why),
     }
 }

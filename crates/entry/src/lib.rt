@@ -1,8 +1,6 @@
 // What `record` does with a line of a sheet: its step is done and recorded, or standard error has why it can't be taken.
-mod complaints;
 mod entering;
 mod records;
-mod why;
 
 pub use entering::Recorded;
 pub use entering::record_line;

@@ -8,8 +8,8 @@ use borrow.Author.Tests.{ne-eqb}
 use Rattle.text.specs.Put.{Text, putsOf}
 use Rattle.text.specs.Ascii.{ascii}
 use Rattle.text.specs.Digits.{decimalOf}
-use Rattle.sheet.specs.Begins.{begins}
-use Rattle.sheet.specs.Names.{ifNamed, laterOf, literalOf}
+use Rattle.words.specs.Begins.{begins}
+use Rattle.naming.specs.Names.{ifNamed, laterOf, literalOf}
 
 -- what is put may be said in another way
 pub puts-same : (t : Text) {u : Text} {xs ys : List ℕ} → xs ≡ ys → u ≡ putsOf t xs → u ≡ putsOf t ys

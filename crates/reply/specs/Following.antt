@@ -9,7 +9,7 @@ use Rattle.slots.specs.declared.outcome.Outcome.{Outcome}
 use Rattle.slots.specs.View.{viewOf}
 use Rattle.sheet.specs.declared.meaning.Line.{Line}
 use Rattle.sheet.specs.declared.meaning.Line.the-variants.{Nothing, Push, Literal, Named, Unreadable}
-use Rattle.sheet.specs.Blanks.{toldOf, trimmed}
+use Rattle.words.specs.Blanks.{toldOf, trimmed}
 use Rattle.sheet.specs.Line.{lineOf}
 use Rattle.reply.specs.Step.{stepOf, editionAfter}
 use Rattle.reply.specs.Answer.{answerOf, writtenOf, complaintOf}

@@ -11,7 +11,7 @@ use Rattle.text.specs.Digits.{decimalOf, digits-length}
 use Rattle.edition.specs.declared.Edition.{Edition}
 use Rattle.slots.specs.View.{viewOf}
 use Rattle.slots.specs.ViewLaws.{view-length}
-use Rattle.sheet.specs.Blanks.{toldOf, trimmed}
+use Rattle.words.specs.Blanks.{toldOf, trimmed}
 use Rattle.sheet.specs.Line.{lineOf}
 use Rattle.sheet.specs.declared.meaning.Line.{Line}
 use Rattle.sheet.specs.declared.meaning.Line.the-variants.{Nothing, Push, Literal, Named, Unreadable}

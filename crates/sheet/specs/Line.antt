@@ -6,7 +6,7 @@ use mathlib.Core.List.{List, [], _∷_}
 use native.Mathlib.Omega.{arith}
 use native.Mathlib.Numerals.{add-one}
 use lib.Dec.{eqb, ltb, leb}
-use lib.ListN.{length, drop, getD, drop-of-length-le, List·getD-eq-default}
+use lib.ListN.{length, drop, getD, drop-of-length-le}
 use lib.Seq.{drop-cons}
 use borrow.Author.Tests.{lt-ltb, le-ltb, lt-leb, le-leb}
 use Rattle.edition.specs.declared.Edition.the-variants.{Shipped, Mended}
@@ -15,32 +15,11 @@ use Rattle.text.specs.Ascii.{ascii}
 use Rattle.sheet.specs.declared.meaning.Line.{Line}
 use Rattle.sheet.specs.declared.meaning.Line.the-variants.{Nothing, Push, Literal, Named, Unreadable}
 use Rattle.sheet.specs.declared.meaning.Fault.the-variants.{LongLine, BareNumber, BadPush, BadLiteral, BadEdition}
-use Rattle.sheet.specs.Begins.{begins}
-use Rattle.sheet.specs.Blanks.{blank, started, trimmed}
+use Rattle.words.specs.Blanks.{trimmed}
+use Rattle.words.specs.After.{after}
 use Rattle.sheet.specs.Decimal.{decimalIn}
-use Rattle.sheet.specs.Names.{literalOf, editionOf}
+use Rattle.naming.specs.Names.{literalOf, editionOf}
 use Rattle.sheet.specs.Numbers.{numberFrom}
-
--- what follows a word and a blank; nothing where the text begins otherwise
-unfoldable pub after : List ℕ → List ℕ → List ℕ
-after word s = cond (begins word s && blank (getD s (length word) 0)) (started (drop (length word) s)) []
-
-module _ (word s : List ℕ) where
-  pub after-word : begins word s ≡ true → blank (getD s (length word) 0) ≡ true → after word s ≡ started (drop (length word) s)
-  unfolding after
-  after-word e b = simp (e, b)
-
-  pub after-other : begins word s ≡ false → after word s ≡ []
-  unfolding after
-  after-other e = simp e
-
-  pub after-joined : begins word s ≡ true → blank (getD s (length word) 0) ≡ false → after word s ≡ []
-  unfolding after
-  after-joined e b = simp (e, b)
-
-  pub after-alone : begins word s ≡ true → length s ≤ length word → after word s ≡ []
-  unfolding blank
-  after-alone e h = after-joined e (rw (List·getD-eq-default s 0 h))
 
 -- a whole number from -65,535 to 65,535, as the short number with b5 = 0; `-` is 45 in ASCII
 unfoldable pub shortPushed : ℕ → ℕ → Line

@@ -13,7 +13,7 @@ use Rattle.text.specs.Digits.{valueOf}
 use Rattle.sheet.specs.declared.meaning.Line.{Line}
 use Rattle.sheet.specs.declared.meaning.Line.the-variants.{Push, Unreadable}
 use Rattle.sheet.specs.declared.meaning.Fault.the-variants.{NoStep}
-use Rattle.sheet.specs.Blanks.{blank}
+use Rattle.words.specs.Blanks.{blank}
 
 -- b1 is the first two of ten digits that come to v
 abbrev pub number : ℕ → Number

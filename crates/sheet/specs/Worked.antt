@@ -9,12 +9,13 @@ use Rattle.text.specs.Digits.{valueOf}
 use Rattle.sheet.specs.declared.meaning.Line.{Line}
 use Rattle.sheet.specs.declared.meaning.Line.the-variants.{Nothing, Push, Literal, Named, Unreadable}
 use Rattle.sheet.specs.declared.meaning.Fault.the-variants.{BareNumber, BadPush, BadLiteral, BadEdition, NoStep}
-use Rattle.sheet.specs.Begins.{begins}
-use Rattle.sheet.specs.Blanks.{byteOrderMark, toldOf, unmarked, commentFrom, blank, started, endOf}
+use Rattle.words.specs.Begins.{begins}
+use Rattle.words.specs.Blanks.{byteOrderMark, toldOf, unmarked, commentFrom, blank, started, endOf}
 use Rattle.sheet.specs.Decimal.{decimalFrom, decimalIn}
-use Rattle.sheet.specs.Names.{ifNamed, laterOf, literalOf, editionOf}
+use Rattle.words.specs.After.{after}
+use Rattle.naming.specs.Names.{ifNamed, laterOf, literalOf, editionOf}
 use Rattle.sheet.specs.Numbers.{numberFrom}
-use Rattle.sheet.specs.Line.{lineOf, said, after, pushed, shortPushed, numbered, named, bare, plain}
+use Rattle.sheet.specs.Line.{lineOf, said, pushed, shortPushed, numbered, named, bare, plain}
 
 pub record Case : Type 0 where
   pub line : String

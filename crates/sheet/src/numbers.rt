@@ -1,8 +1,8 @@
 // A number of five bytes in hexadecimal, two digits each, with blanks between them.
-use crate::blanks::is_blank;
 use crate::meaning::Fault;
 use crate::meaning::Line;
 use number::Number;
+use words::is_blank;
 ghost use mathlib.Core.Path.{_≡_};
 ghost use Rattle.sheet.specs.Numbers.{numberFrom};
 

@@ -1,32 +1,15 @@
 // What a line says, by what stands before its comment.
-use crate::begins::begins;
-use crate::blanks;
 use crate::decimal::decimal_in;
 use crate::meaning::Fault;
 use crate::meaning::Line;
-use crate::names;
 use crate::numbers;
 use edition::Edition;
 use number::Number;
+use words::after;
 ghost use mathlib.Core.Path.{_≡_};
 ghost use Prim.Native.Nat.{_<_};
 ghost use lib.ListN.{length};
-ghost use Rattle.sheet.specs.Line.{after, shortPushed, pushed, numbered, named, bare, plain, said, lineOf};
-
-// What follows a word and a blank.
-fn after<'a>(text: &'a [u8], word: &[u8]) -> &'a [u8]
-    ensures { λ r. ⌜ now r ≡ after (now (word .entry)) (now (text .entry)) ⌝ }
-{
-    let n = word.len();
-    if begins(text, word) {
-        if n < text.len() {
-            if blanks::is_blank(text[n]) {
-                return blanks::started(text, n);
-            }
-        }
-    }
-    &text[0..0]
-}
+ghost use Rattle.sheet.specs.Line.{shortPushed, pushed, numbered, named, bare, plain, said, lineOf};
 
 // A magnitude over 65,535 stands for none. Zero has no sign.
 fn short_pushed(sign: u8, v: u32) -> Line
@@ -70,7 +53,7 @@ fn numbered(text: &[u8]) -> Line
 fn named(text: &[u8]) -> Line
     ensures { λ r. ⌜ r ≡ named (now (text .entry)) ⌝ }
 {
-    let n = names::edition_of(text);
+    let n = naming::edition_of(text);
     if n == 0 {
         return Line::Named(Edition::Shipped);
     }
@@ -103,7 +86,7 @@ fn is_bare(text: &[u8]) -> bool
 fn plain(text: &[u8]) -> Line
     ensures { λ r. ⌜ r ≡ plain (now (text .entry)) ⌝ }
 {
-    let literal = names::literal_of(text);
+    let literal = naming::literal_of(text);
     if literal < 256 {
         return Line::Literal(literal as u8);
     }
@@ -140,5 +123,5 @@ pub fn line_of(told: &[u8]) -> Line
     if 65535 < told.len() {
         return Line::Unreadable(Fault::LongLine);
     }
-    said(blanks::trimmed(told))
+    said(words::trimmed(told))
 }

@@ -2,7 +2,7 @@
 use mathlib.Core.Path.{refl, sym, _∙_}
 use native.Mathlib.Omega.{arith}
 use borrow.Author.Tests.{eq-eqb, ne-eqb}
-use Rattle.sheet.specs.Blanks.{rest}
+use Rattle.words.specs.Blanks.{rest}
 use Rattle.sheet.specs.Line.{pushed}
 use Rattle.sheet.proofs.reading.pushed.Statement.{statement}
 use Rattle.sheet.proofs.reading.pushed.Tie as tie
