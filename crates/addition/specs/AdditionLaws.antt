@@ -1,5 +1,5 @@
 -- Addition by sign and magnitude, which is how the code goes: a law for each way through the definitions.
-use Prim.Native.Nat.{ℕ, suc, _+_, _*_, _-_, _^_, _/_, _≤_, _<_, max}
+use Prim.Native.Nat.{ℕ, suc, _+_, _*_, _-_, _^_, _/_, _≤_, _<_}
 use mathlib.Core.Path.{_≡_, refl, sym, _∙_, ap, ap₂}
 use mathlib.Core.Logic.{_⊎_, inl, inr}
 use mathlib.Core.Bool.{Bool, true, false, cond}
@@ -14,7 +14,6 @@ use Rattle.number.specs.declared.Number.{Number}
 use Rattle.number.specs.Number.{sign, mantissa, fullOf}
 use Rattle.number.specs.Value.{signed}
 use Rattle.number.specs.ValueLaws.{signed-zero}
-use Rattle.ending.specs.declared.answer.Answer.{Answer}
 use Rattle.ending.specs.declared.answer.Answer.the-variants.{Done, TooBig}
 use Rattle.ending.specs.Ending.{loose, ended}
 use Rattle.ending.specs.EndingLaws.{ended-zero, ended-set, closed-stored}

@@ -14,11 +14,11 @@ use Rattle.number.specs.Number.{number, sign, fullOf, low, complementOf, shortM
 use Rattle.number.specs.NumberLaws.{magnitude-lt}
 use Rattle.number.specs.Value.{signed}
 use Rattle.number.specs.LeadingZeros.{places-are, zeros-of}
-use Rattle.number.specs.Restack.{fullOfShort, restacked}
+use Rattle.number.specs.Restack.{fullOfShort}
 use Rattle.number.specs.RestackLaws.{restack-some}
 use Rattle.number.specs.RestackValue.{full-of-short}
 use Rattle.ending.specs.declared.answer.Answer.the-variants.{Done}
-use Rattle.addition.specs.Addition.{signedMantissa, aligned, endedSum, larger, alignedSum, fullRoute}
+use Rattle.addition.specs.Addition.{signedMantissa, aligned, endedSum, alignedSum, fullRoute}
 use Rattle.addition.specs.SignedLaws.{same-sign}
 use Rattle.addition.specs.AdditionLaws.{moved-within, sum-stored}
 

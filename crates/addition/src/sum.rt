@@ -2,7 +2,7 @@
 use ending::Answer;
 use number::Number;
 ghost use mathlib.Core.Path.{_≡_};
-ghost use Prim.Native.Nat.{_+_, _^_, _%_, _≤_, _<_, max};
+ghost use Prim.Native.Nat.{_+_, _^_, _%_, _<_, max};
 ghost use mathlib.Core.Bool.{cond};
 ghost use lib.IntN.{pos, natAbs, _+ℤ_};
 ghost use lib.Signed.{remZ};

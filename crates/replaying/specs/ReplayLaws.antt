@@ -1,20 +1,19 @@
 -- The replay, a law a turn: there is no record left, the next one differs, or it agrees.
-use Prim.Native.Nat.{ℕ, suc, _+_, _-_, _*_, _/_, _≤_, _<_}
+use Prim.Native.Nat.{ℕ, suc, _+_, _-_, _/_, _≤_}
 use mathlib.Core.Path.{_≡_, refl, sym, _∙_, ap}
 use mathlib.Core.Bool.{Bool, true, false, true≢false, false≢true, cond, not, _||_, or-false}
 use mathlib.Core.List.{List}
 use native.Mathlib.Nat.{sub-zero, sub-self}
 use native.Mathlib.Omega.{arith}
-use lib.Dec.{eqb}
 use lib.ListN.{length, drop}
 use lib.Seq.{drop-drop}
-use borrow.Author.Tests.{eq-eqb, ne-eqb, eqb-true, eqb-false}
+use borrow.Author.Tests.{eq-eqb, ne-eqb}
 use Rattle.edition.specs.declared.Edition.the-variants.{Shipped}
 use Rattle.slots.specs.declared.outcome.Outcome.{Outcome}
 use Rattle.slots.specs.Reports.{overLimits}
 use Rattle.slots.specs.Push.{pushOf}
 use Rattle.literals.specs.Operate.{operateOf}
-use Rattle.recording.specs.Recording.{literalIn, reportIn, depthIn, topIn, first, later, same, notARecording}
+use Rattle.recording.specs.Recording.{literalIn, topIn, first, later, same, notARecording}
 use Rattle.replaying.specs.declared.answer.Replayed.{Replayed}
 use Rattle.replaying.specs.declared.answer.Field.{Field}
 use Rattle.replaying.specs.declared.answer.Field.the-variants.{Report, Depth, Top}

@@ -1,7 +1,7 @@
 -- `add` meets its contract: it is `sum`.
 use borrow.Author.Needs.{needs}
 use mathlib.Core.Path.{refl}
-use mathlib.Core.Logic.{inl, inr}
+use mathlib.Core.Logic.{inl}
 use Rattle.adding.proofs.sum.add.Statement.{statement}
 use Rattle.adding.proofs.sum.add.Tie as tie
 

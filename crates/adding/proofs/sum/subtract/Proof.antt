@@ -1,7 +1,7 @@
 -- `subtract` meets its contract: it is `sum`.
 use borrow.Author.Needs.{needs}
 use mathlib.Core.Path.{refl}
-use mathlib.Core.Logic.{inl, inr}
+use mathlib.Core.Logic.{inr}
 use Rattle.adding.proofs.sum.subtract.Statement.{statement}
 use Rattle.adding.proofs.sum.subtract.Tie as tie
 

@@ -1,6 +1,5 @@
 -- `low_bits` meets its contract: a remainder is no larger than what is divided.
-use Prim.Native.Nat.{_%_}
-use mathlib.Core.Path.{_≡_, sym, _∙_, ap}
+use mathlib.Core.Path.{ap}
 use native.Mathlib.Omega.{arith}
 use lib.IntN.{ℤ, pos}
 use lib.Signed.{remZ}

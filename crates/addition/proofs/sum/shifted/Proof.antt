@@ -8,7 +8,6 @@ use lib.Signed.{shrZ}
 use mir.Syntax.{w64}
 use mir.Val.{SFits, ofZ, toZ}
 use mir.Facts.{toZ-ofZ}
-use Rattle.addition.specs.Addition.{aligned}
 use Rattle.addition.specs.SignedLaws.{natAbs-twice, natAbs-moved, natAbs-sum, holds, held}
 use Rattle.addition.specs.AdditionLaws.{moved-away}
 use Rattle.addition.specs.MantissaLaws.{twice-moved, aligned-lt}

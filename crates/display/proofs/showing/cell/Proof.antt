@@ -1,5 +1,4 @@
 -- `cell` meets its contract: the tests come in the order of the definition's cases.
-use Prim.Native.Nat.{ℕ}
 use mathlib.Core.Path.{sym, _∙_, ap, ap₂}
 use Rattle.number.specs.Number.{number}
 use Rattle.display.specs.Cell.{numberShown}

@@ -1,5 +1,4 @@
 -- `digits` meets its contract by the quotient law at 33 rounds.
-use borrow.Author.Needs.{needs}
 use Prim.Native.Nat.{_+_, _^_, _%_}
 use native.Mathlib.Omega.{arith}
 use Rattle.division.specs.DivisionLaws.{rounds33-div, rounds33-below}

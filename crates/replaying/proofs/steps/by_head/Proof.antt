@@ -1,5 +1,4 @@
 -- `by_head` meets its contract: the head decides.
-use Prim.Native.Nat.{ℕ}
 use mathlib.Core.Path.{sym, _∙_, ap}
 use mathlib.Core.Bool.{Bool, not}
 use Rattle.replaying.specs.HeldLaws.{heldBy}

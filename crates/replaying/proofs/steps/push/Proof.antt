@@ -1,16 +1,12 @@
 -- `push` meets its contract: each way out is a case law of the definition.
 use borrow.Author.Needs.{needs}
 use Prim.Native.Nat.{ℕ}
-use mathlib.Core.Path.{_≡_, sym, _∙_, ap, ap₂}
-use mathlib.Core.Bool.{Bool, true, false, cond}
+use mathlib.Core.Path.{sym, _∙_, ap, ap₂}
 use mathlib.Core.List.{List}
 use native.Mathlib.Omega.{arith}
-use lib.Dec.{ltb}
 use Rattle.number.specs.Number.{number}
 use Rattle.slots.specs.Slots.{putSlot}
-use Rattle.slots.specs.Reports.{overLimits}
-use Rattle.slots.specs.Reach.{refusalOf, putAt}
-use Rattle.slots.specs.ReachLaws.{has}
+use Rattle.slots.specs.Reach.{putAt}
 use Rattle.slots.specs.PushLaws.{push-lacking, Room, push-room, alone, put-alone, push-not-five, push-malformed, pushed}
 use Rattle.literals.specs.Operate.{outcome}
 use Rattle.replaying.proofs.steps.push.Statement.{statement}

@@ -1,10 +1,8 @@
 -- `refused` meets its contract: the head and then the top decide.
 use borrow.Author.Needs.{needs}
-use mathlib.Core.Path.{_≡_, sym, _∙_, ap}
+use mathlib.Core.Path.{sym, _∙_, ap}
 use mathlib.Core.Bool.{true, false, not}
-use Rattle.edition.specs.declared.Edition.the-variants.{Shipped}
-use Rattle.literals.specs.Operate.{outcome, operateOf}
-use Rattle.replaying.specs.Replay.{stepOf}
+use Rattle.literals.specs.Operate.{operateOf}
 use Rattle.replaying.specs.ReplayLaws.{step-literal, head-differs, literal-differs}
 use Rattle.replaying.specs.HeldLaws.{holds}
 use Rattle.replaying.proofs.steps.refused.Statement.{statement}

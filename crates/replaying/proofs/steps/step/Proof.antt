@@ -1,14 +1,11 @@
 -- `step` meets its contract: the literal decides, as in the definition.
 use borrow.Author.Needs.{needs}
-use Prim.Native.Nat.{ℕ}
 use mathlib.Core.Path.{_≡_, refl, sym, _∙_, ap}
 use mathlib.Core.Bool.{true, false, not}
 use mathlib.Core.List.{[]}
-use Rattle.edition.specs.declared.Edition.the-variants.{Shipped}
 use Rattle.slots.specs.Push.{pushOf}
-use Rattle.literals.specs.Operate.{outcome, operateOf}
-use Rattle.recording.specs.Recording.{literalIn, reportIn}
-use Rattle.replaying.specs.Replay.{stepOf}
+use Rattle.literals.specs.Operate.{operateOf}
+use Rattle.recording.specs.Recording.{literalIn}
 use Rattle.replaying.specs.ReplayLaws.{step-push, step-literal, push-differs, literal-differs}
 use Rattle.replaying.specs.HeldLaws.{holds, holds-as, report-differs, depth-differs, head-same}
 use Rattle.replaying.proofs.steps.step.Statement.{statement}

@@ -1,5 +1,4 @@
 -- `pushed` meets its contract: the test is the definition's.
-use mathlib.Core.Path.{refl, sym, _∙_}
 use native.Mathlib.Omega.{arith}
 use borrow.Author.Tests.{eq-eqb, ne-eqb}
 use Rattle.words.specs.Blanks.{rest}

@@ -1,6 +1,5 @@
 -- `told` meets its contract: the line without its mark, up to the comment.
-use mathlib.Core.Path.{refl, sym, _∙_}
-use native.Mathlib.Omega.{arith}
+use mathlib.Core.Path.{sym}
 use lib.Seq.{length-take-le}
 use Rattle.words.proofs.blanks.told.Statement.{statement}
 use Rattle.words.proofs.blanks.told.Tie as tie

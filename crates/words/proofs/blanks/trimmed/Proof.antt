@@ -1,5 +1,5 @@
 -- `trimmed` meets its contract: up to the end, then without the blanks before.
-use mathlib.Core.Path.{refl, sym, _∙_}
+use mathlib.Core.Path.{sym}
 use native.Mathlib.Omega.{arith}
 use lib.Seq.{length-take-le}
 use Rattle.words.proofs.blanks.trimmed.Statement.{statement}

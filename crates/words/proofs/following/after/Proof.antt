@@ -1,5 +1,5 @@
 -- `after` meets its contract: the tests are the definition's, and each of the three that fails leaves nothing.
-use mathlib.Core.Path.{refl, sym, _∙_}
+use mathlib.Core.Path.{sym, _∙_}
 use native.Mathlib.Omega.{arith}
 use mathlib.Core.Logic.{⊎-elim}
 use Rattle.words.specs.After.{after-word, after-joined, after-alone, after-other}
