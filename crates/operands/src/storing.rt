@@ -1,12 +1,9 @@
 // The answer of two numbers, in the first one's slot.
 use ending::Answer;
 ghost use mathlib.Core.Path.{_≡_};
-ghost use mathlib.Core.Bool.{false};
-ghost use Rattle.slots.specs.Reach.{lacking};
-ghost use Rattle.operands.specs.Stored.{storedOf};
+ghost use Rattle.operands.specs.Stored.{storedAt};
 
-// For two numbers that are there, at the depth that was read. The depth is read again where it is written: one that is kept costs a register for the whole
-// operation.
+// The depth is read again where it is written: one that is kept costs a register for the whole operation.
 pub fn store(
     stack: &mut [u8],
     depth: &mut usize,
@@ -15,8 +12,7 @@ pub fn store(
     taken: usize,
     left: usize,
 ) -> u8
-    ensures { λ r. ⌜ ((now (depth .entry) ≡ old) × (lacking (now (stack .entry)) old 2 ≡ false) × (taken ≡ 2) × (left ≡ 1)
-        → storedOf (now (stack .entry)) (now (depth .entry)) answer ≡ (r, now (depth .exit), now (stack .exit))) ⌝ }
+    ensures { λ r. ⌜ storedAt (now (stack .entry)) (now (depth .entry)) old answer taken left ≡ (r, now (depth .exit), now (stack .exit)) ⌝ }
 {
     match answer {
         Answer::Done(n) => {

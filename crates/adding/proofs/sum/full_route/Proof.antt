@@ -12,7 +12,7 @@ use Rattle.slots.specs.Reach.{numberAt}
 use Rattle.literals.specs.Operate.{outcome, operateOf}
 use Rattle.literals.specs.WayLaws.{two-malformed}
 use Rattle.adding.specs.declared.term.Summand.{Summand}
-use Rattle.operands.specs.Stored.{storedOf, two-stored}
+use Rattle.operands.specs.Stored.{storedOf, stored-as, two-stored}
 use Rattle.adding.specs.Sum.{flips, literalOf, totalOf, sum-line}
 use Rattle.adding.specs.Term.{term-form, term-formed, terms-summed}
 use Rattle.adding.proofs.sum.full_route.Statement.{statement}
@@ -64,7 +64,7 @@ returns-3 c =
     let m = sym (first d) ∙ n .if2 .left in
     let is = a .aligned-sum .ensures ∙ terms-summed _ _ (d .term2 .result) (t .term .result) (d .term2 .ensures .0 ∙ term-formed _ _ m) (t .term .ensures .0 ∙ term-formed _ _ o) (d .term2 .ensures .1) (t .term .ensures .1) ∙ sym (i .pre .5) in
     ap (λ (k : ℕ). operateOf Shipped s k (literalOf l)) (i .pre .3)
-    ∙ two-stored Shipped _ _ _ (totalOf l) (sum-line l) (i .pre .4) (simp (m, o)) _ _ _ (ap₂ (storedOf s) (sym (i .pre .3)) (sym is) ∙ p .store .ensures (i .pre .3, i .pre .4, i .pre .1, i .pre .2))
+    ∙ two-stored Shipped _ _ _ (totalOf l) (sum-line l) (i .pre .4) (simp (m, o)) _ _ _ (ap₂ (storedOf s) (sym (i .pre .3)) (sym is) ∙ stored-as _ _ _ _ _ _ (i .pre .3, i .pre .4, i .pre .1, i .pre .2) (p .store .ensures))
 
 pub full-route-spec : {M : Type 1} → statement M
 full-route-spec =

@@ -13,7 +13,7 @@ use Rattle.slots.specs.Reach.{lacking, refusalOf, numberAt}
 use Rattle.slots.specs.ReachLaws.{has}
 use Rattle.literals.specs.Operate.{outcome}
 use Rattle.literals.specs.WayLaws.{two-lacking, two-malformed, two-done}
-use Rattle.operands.specs.Stored.{storedOf, two-stored}
+use Rattle.operands.specs.Stored.{storedOf, stored-as, two-stored}
 use Rattle.adding.specs.Sum.{flips, totalOf, sum-line}
 use Rattle.adding.proofs.sum.sum.Statement.{statement}
 use Rattle.adding.proofs.sum.sum.Tie as tie
@@ -65,7 +65,7 @@ returns-4 c =
     let i = r .before .before .before .before .before .before .before .before in
     let l = flips (i .args .flip) in
     let t = said r _ (k .short2 .given .1) in
-    two-stored Shipped _ _ _ (totalOf l) (sum-line l) (there (r .before .before)) (t .0) _ _ _ (ap (storedOf (i .args .stack .now) (i .args .depth .now)) (t .1) ∙ p .store .ensures (refl, there (r .before .before), i .pre .1, i .pre .2))
+    two-stored Shipped _ _ _ (totalOf l) (sum-line l) (there (r .before .before)) (t .0) _ _ _ (ap (storedOf (i .args .stack .now) (i .args .depth .now)) (t .1) ∙ stored-as _ _ _ _ _ _ (refl, there (r .before .before), i .pre .1, i .pre .2) (p .store .ensures))
 
 pub sum-spec : {M : Type 1} → statement M
 sum-spec =

@@ -6,7 +6,7 @@ use Rattle.edition.specs.declared.Edition.the-variants.{Shipped}
 use Rattle.number.specs.Operand.{packed-byte}
 use Rattle.division.specs.Division.{quotientOf, restackedQuotient}
 use Rattle.literals.specs.Operate.{operateOf}
-use Rattle.operands.specs.Stored.{storedOf, two-stored}
+use Rattle.operands.specs.Stored.{storedOf, stored-as, two-stored}
 use Rattle.dividing.specs.Quotient.{division-line}
 use Rattle.dividing.proofs.quotient.quotient.Statement.{statement}
 use Rattle.dividing.proofs.quotient.quotient.Tie as tie
@@ -23,7 +23,7 @@ returns c =
     let k = sym (y .form) in
     let is = a .division .ensures ∙ ap₂ (restackedQuotient Shipped) (packed-byte _ _ _ (x .first .byte) ∙ x .first .stands m) (packed-byte _ _ _ (y .byte) ∙ y .stands k) in
     ap (λ (d : ℕ). operateOf Shipped (i .args .stack .now) d 5) (x .same)
-    ∙ two-stored Shipped _ _ _ quotientOf division-line (x .there) (simp (m, k)) _ _ _ (ap₂ (storedOf (i .args .stack .now)) (sym (x .same)) (sym is) ∙ p .store .ensures (x .same, x .there, refl, refl))
+    ∙ two-stored Shipped _ _ _ quotientOf division-line (x .there) (simp (m, k)) _ _ _ (ap₂ (storedOf (i .args .stack .now)) (sym (x .same)) (sym is) ∙ stored-as _ _ _ _ _ _ (x .same, x .there, refl, refl) (p .store .ensures))
 
 pub quotient-spec : {M : Type 1} → statement M
 quotient-spec =

@@ -5,7 +5,7 @@ use mathlib.Core.Path.{refl, sym, _∙_, ap, ap₂}
 use Rattle.edition.specs.declared.Edition.the-variants.{Shipped}
 use Rattle.multiplication.specs.Multiplication.{productOf}
 use Rattle.literals.specs.Operate.{operateOf}
-use Rattle.operands.specs.Stored.{storedOf, two-stored}
+use Rattle.operands.specs.Stored.{storedOf, stored-as, two-stored}
 use Rattle.multiplying.specs.Product.{product-line, pair-malformed}
 use Rattle.multiplying.proofs.product.full_route.Statement.{statement}
 use Rattle.multiplying.proofs.product.full_route.Tie as tie
@@ -20,7 +20,7 @@ returns-2 c =
     let m = sym (f .factored .ensures .form) ∙ e .if1 .left in
     let is = a .multiplication .ensures ∙ f .factored .ensures .is m in
     ap (λ (d : ℕ). operateOf Shipped (i .args .stack .now) d 4) (i .pre .same)
-    ∙ two-stored Shipped _ _ _ (λ ed. productOf) product-line (i .pre .there) m _ _ _ (ap₂ (storedOf (i .args .stack .now)) (sym (i .pre .same)) (sym is) ∙ p .store .ensures (i .pre .same, i .pre .there, refl, refl))
+    ∙ two-stored Shipped _ _ _ (λ ed. productOf) product-line (i .pre .there) m _ _ _ (ap₂ (storedOf (i .args .stack .now)) (sym (i .pre .same)) (sym is) ∙ stored-as _ _ _ _ _ _ (i .pre .same, i .pre .there, refl, refl) (p .store .ensures))
 
 pub full-route-spec : {M : Type 1} → statement M
 full-route-spec =

@@ -10,7 +10,7 @@ use Rattle.multiplication.specs.Multiplication.{productOf}
 use Rattle.multiplication.specs.ShortProduct.{Multiplied}
 use Rattle.slots.specs.Reach.{numberAt}
 use Rattle.literals.specs.Operate.{operateOf}
-use Rattle.operands.specs.Stored.{storedOf, two-stored}
+use Rattle.operands.specs.Stored.{storedOf, stored-as, two-stored}
 use Rattle.multiplying.specs.Product.{product-line, by-words, pair-malformed}
 use Rattle.multiplying.proofs.product.short_route.Statement.{statement}
 use Rattle.multiplying.proofs.product.short_route.Tie as tie
@@ -37,7 +37,7 @@ returns-2 c =
     let m = multiplied q in
     let k = sym (m .form) ∙ e .if1 .left in
     ap (λ (n : ℕ). operateOf Shipped (i .args .stack .now) n 4) (i .pre .same)
-    ∙ two-stored Shipped _ _ _ (λ ed. productOf) product-line (i .pre .there) k _ _ _ (ap₂ (storedOf (i .args .stack .now)) (sym (i .pre .same)) (m .is k) ∙ p .store .ensures (i .pre .same, i .pre .there, refl, refl))
+    ∙ two-stored Shipped _ _ _ (λ ed. productOf) product-line (i .pre .there) k _ _ _ (ap₂ (storedOf (i .args .stack .now)) (sym (i .pre .same)) (m .is k) ∙ stored-as _ _ _ _ _ _ (i .pre .same, i .pre .there, refl, refl) (p .store .ensures))
 
 pub short-route-spec : {M : Type 1} → statement M
 short-route-spec =
