@@ -46,7 +46,7 @@ fn run_shipped(stack: &mut [u8], depth: usize, literals: &[u8]) -> RunOutcome
                 position,
             };
         }
-        let report = operation::run_step(stack, &mut current, literals[position]);
+        let report = stepping::run_step(stack, &mut current, literals[position]);
         if report != 0 {
             break Stop { report, position };
         }

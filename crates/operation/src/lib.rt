@@ -1,12 +1,7 @@
 // One operation on the stack: the report that comes first, or the bytes and the depth that the literal leaves.
-mod tables;
-
 use edition::Edition;
 use literals::table;
 use slots::Outcome;
-pub use tables::replay_step;
-pub use tables::run_step;
-pub use tables::run_step_in;
 ghost use mathlib.Core.Path.{_≡_};
 ghost use Rattle.edition.specs.Edition.{unnamed};
 ghost use Rattle.edition.specs.declared.Edition.the-variants.{Shipped};
@@ -81,6 +76,27 @@ pub fn operate_in_place_in(edition: Edition, stack: &mut [u8], depth: &mut usize
         table::NEGATE => either::negate(edition, stack, depth),
         table::INT => either::int(edition, stack, depth),
         table::DUPLICATE => moving::duplicate(stack, depth),
+        table::TRUNCATE => either::truncate(edition, stack, depth),
+        table::RE_STACK => either::re_stack(edition, stack, depth),
+        _ => literals::unknown(stack, *depth),
+    }
+}
+
+// For a run in the edition that is named: no large literal is then put into either table, which would save registers for it on every call.
+pub fn run_step_in(edition: Edition, stack: &mut [u8], depth: &mut usize, literal: u8) -> u8
+    ensures { λ r. ⌜ operateOf edition (now (stack .entry)) (now (depth .entry)) literal ≡ (outcome r (now (depth .exit)), now (stack .exit)) ⌝ }
+{
+    match literal {
+        0 => literals::unknown(stack, *depth),
+        table::EXCHANGE => moving::exchange(stack, depth),
+        table::DELETE => moving::delete_in_loop(stack, depth),
+        table::SUBTRACT => either::subtract(edition, stack, depth),
+        table::MULTIPLY => either::multiply(edition, stack, depth),
+        table::DIVIDE => either::divide(edition, stack, depth),
+        table::ADD => either::add(edition, stack, depth),
+        table::NEGATE => either::negate(edition, stack, depth),
+        table::INT => either::int(edition, stack, depth),
+        table::DUPLICATE => moving::duplicate_in_loop(stack, depth),
         table::TRUNCATE => either::truncate(edition, stack, depth),
         table::RE_STACK => either::re_stack(edition, stack, depth),
         _ => literals::unknown(stack, *depth),

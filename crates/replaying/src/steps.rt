@@ -112,7 +112,7 @@ pub(crate) fn step(stack: &mut [u8], depth: &mut usize, bytes: &[u8]) -> Held
     if recording::report_in(bytes) != 0 {
         return refused(stack, depth, bytes, literal);
     }
-    let report = operation::replay_step(stack, depth, literal);
+    let report = stepping::replay_step(stack, depth, literal);
     if report != 0 {
         return Held::Differs(report);
     }

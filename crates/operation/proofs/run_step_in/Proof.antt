@@ -1,12 +1,12 @@
--- `run_step` meets its contract: each arm does the literal of its row.
+-- `run_step_in` meets its contract: each arm does the literal of its row.
 use borrow.Author.Needs.{needs}
 use mathlib.Core.Path.{refl, _∙_, ap}
 use Rattle.literals.specs.Literals.{rowOf, operationOf}
 use Rattle.literals.specs.Reports.{notInTable}
 use Rattle.literals.specs.Operate.{operateOf}
 use Rattle.literals.specs.OperateLaws.{in-no-row}
-use Rattle.operation.proofs.tables.run_step.Statement.{statement}
-use Rattle.operation.proofs.tables.run_step.Tie as tie
+use Rattle.operation.proofs.run_step_in.Statement.{statement}
+use Rattle.operation.proofs.run_step_in.Tie as tie
 
 returns-13 : tie.Need-returns-13
 returns-13 c =
@@ -14,9 +14,9 @@ returns-13 c =
     c .unknown2 .ensures _ _
     (in-no-row _ (r .0 .0 .0 .0 .0 .0 .0 .0 .0 .0 .1) (r .0 .0 .0 .0 .0 .0 .0 .0 .0 .1) (r .0 .0 .0 .0 .0 .0 .0 .0 .1) (r .0 .0 .0 .0 .0 .0 .0 .1) (r .0 .0 .0 .0 .0 .0 .1) (r .0 .0 .0 .0 .0 .1) (r .0 .0 .0 .0 .1) (r .0 .0 .0 .1) (r .0 .0 .1) (r .0 .1) (r .1))
 
-pub run-step-spec : {M : Type 1} → statement M
+pub run-step-in-spec : {M : Type 1} → statement M
 unfolding notInTable operationOf rowOf
-run-step-spec =
+run-step-in-spec =
     tie.close
     (tie.spec
     (λ c κs. tt)

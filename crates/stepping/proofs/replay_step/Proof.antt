@@ -5,8 +5,8 @@ use Rattle.literals.specs.Literals.{rowOf, operationOf}
 use Rattle.literals.specs.Reports.{notInTable}
 use Rattle.literals.specs.Operate.{operateOf}
 use Rattle.literals.specs.OperateLaws.{in-no-row}
-use Rattle.operation.proofs.tables.replay_step.Statement.{statement}
-use Rattle.operation.proofs.tables.replay_step.Tie as tie
+use Rattle.stepping.proofs.replay_step.Statement.{statement}
+use Rattle.stepping.proofs.replay_step.Tie as tie
 
 returns-12 : tie.Need-returns-12
 returns-12 c =
