@@ -97,7 +97,7 @@ fn refused(stack: &mut [u8], depth: &mut usize, bytes: &[u8], literal: u8) -> He
     Held::Differs(report)
 }
 
-// A push for literal 0, and else the literal; and whether the record agrees. The question is asked apart where a push is done: its report is then 0 there.
+// A push for literal 0, and else the literal; and whether the record agrees.
 pub(crate) fn step(stack: &mut [u8], depth: &mut usize, bytes: &[u8]) -> Held
     ensures { λ r. ⌜ Holds (now (stack .entry)) (now (depth .entry)) (now (bytes .entry)) r (now (depth .exit)) (now (stack .exit)) ⌝ }
 {
@@ -107,6 +107,7 @@ pub(crate) fn step(stack: &mut [u8], depth: &mut usize, bytes: &[u8]) -> Held
         if report != 0 {
             return by_head(bytes, report, *depth);
         }
+        // The same, of a report that the compiler knows to be 0.
         return by_head(bytes, report, *depth);
     }
     if recording::report_in(bytes) != 0 {
