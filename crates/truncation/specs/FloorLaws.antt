@@ -3,9 +3,10 @@ use Prim.Native.Nat.{ℕ, _+_, _*_, _-_, _^_, _/_, _%_, _≤_, _<_}
 use mathlib.Core.Path.{_≡_, refl, sym, _∙_, ap, ap₂}
 use mathlib.Core.Logic.{_⊎_, inl, inr}
 use mathlib.Core.Bool.{Bool, true, false}
-use borrow.Author.Tests.{ne-eqb, eq-eqb, ltb-true, ltb-false}
-use lib.Dec.{ltb}
-use native.Mathlib.Nat.{le-trans, le-of-eq}
+use borrow.Author.Tests.{ne-eqb, eq-eqb, eqb-true, eqb-false, ltb-true, ltb-false}
+use lib.Dec.{ltb, eqb}
+use lib.Pow.{pow-pos, high, split as both}
+use native.Mathlib.Nat.{le-trans, le-of-eq, add-mul, mod-lt}
 use native.Mathlib.Omega.{arith}
 use lib.IntN.{ℤ, pos, negsuc, negℤ, _+ℤ_, +ℤ-comm}
 use Rattle.edition.specs.declared.Edition.{Edition}
@@ -193,3 +194,42 @@ short-down x b s f h g p = go (ltb v 65535) refl
         let most = dropped-lt (mantissa x) (160 - x .b1) (omega arith) (omega arith) in
         let is : v ≡ 65535 = omega (arith, ltb-false v 65535 c) in
         short-least Shipped x b s f h g p is ∙ ap (λ (w : ℕ). Done (halves 255 (65535 - w))) (sym is)
+
+-- One less than the mantissa, with the places dropped: one less where nothing is cut off, and else the same.
+less-whole : (v n : ℕ) → 0 < v → (v * 2 ^ n - 1) / 2 ^ n ≡ v - 1
+less-whole v n h =
+    let p = pow-pos n in
+    let one : v * 2 ^ n ≡ (v - 1) * 2 ^ n + 1 * 2 ^ n = ap (λ (i : ℕ). i * 2 ^ n) {x = v} {y = v - 1 + 1} (omega arith) ∙ add-mul (v - 1) 1 (2 ^ n) in
+    let split : v * 2 ^ n - 1 ≡ (v - 1) * 2 ^ n + (2 ^ n - 1) = omega arith in
+    ap (λ (i : ℕ). i / 2 ^ n) split ∙ high (v - 1) n (omega arith)
+
+less-part : (m n : ℕ) → (cleared n m ≡ m → ⊥) → (m - 1) / 2 ^ n ≡ m / 2 ^ n
+less-part m n h =
+    let parts = both m n in
+    let some : ¬ (m % 2 ^ n ≡ 0) = λ z. h (omega arith) in
+    let rest : m - 1 ≡ m / 2 ^ n * 2 ^ n + (m % 2 ^ n - 1) = omega arith in
+    ap (λ (i : ℕ). i / 2 ^ n) rest ∙ high (m / 2 ^ n) n (omega (arith, mod-lt m (pow-pos n)))
+
+-- so int of a negative number whose whole part is short, without a case
+pub short-below : (x : Number) (b : Bytes x) (s : sign x ≡ 1) (f : 0 < x .b1) → 129 ≤ x .b1 → x .b1 < 145
+    → intOf Shipped x ≡ Done (halves 255 (65535 - (mantissa x - 1) / 2 ^ (160 - x .b1)))
+short-below x b s f h g = go (eqb (cleared k m) m) refl
+  where
+    k : ℕ
+    k = 160 - x .b1
+
+    m : ℕ
+    m = mantissa x
+
+    go : (c : Bool) → eqb (cleared k m) m ≡ c → intOf Shipped x ≡ Done (halves 255 (65535 - (m - 1) / 2 ^ k))
+    go true c =
+        let same = eqb-true (cleared k m) m c in
+        let v = m / 2 ^ k in
+        let some = dropped m k (omega arith) (omega arith) (omega arith) .some in
+        let most = dropped-lt m k (omega arith) (omega arith) in
+        let one : (m - 1) / 2 ^ k ≡ v - 1 = ap (λ (n : ℕ). (n - 1) / 2 ^ k) (sym same) ∙ less-whole v k some in
+        cut-short Shipped x b s f h g .whole same ∙ ap (λ (n : ℕ). Done (halves 255 n)) (flip v (65535 - (m - 1) / 2 ^ k) some most (ap (λ (n : ℕ). 65535 - n) one))
+      where
+        flip : (v n : ℕ) → 0 < v → v < 2 ^ 16 → n ≡ 65535 - (v - 1) → complementOf v ≡ n
+        flip v n p q e = omega arith
+    go false c = short-down x b s f h g (eqb-false (cleared k m) m c) ∙ ap (λ (n : ℕ). Done (halves 255 (65535 - n))) (sym (less-part m k (eqb-false (cleared k m) m c)))

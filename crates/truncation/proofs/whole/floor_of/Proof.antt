@@ -8,11 +8,11 @@ use native.Mathlib.Omega.{arith}
 use lib.Pow.{pow-mono, shl-exact}
 use Rattle.edition.specs.declared.Edition.the-variants.{Shipped}
 use Rattle.number.specs.declared.Number.{Number}
-use Rattle.number.specs.Number.{number, mantissa, fullOf, halves}
+use Rattle.number.specs.Number.{number, mantissa, fullOf}
 use Rattle.ending.specs.declared.answer.Answer.the-variants.{Done}
 use Rattle.truncation.specs.Truncate.{taken65536, cleared}
-use Rattle.truncation.specs.BitLaws.{cleared-le, dropped-lt}
-use Rattle.truncation.specs.FloorLaws.{int-taken, cut-short, short-down}
+use Rattle.truncation.specs.BitLaws.{cleared-le}
+use Rattle.truncation.specs.FloorLaws.{int-taken}
 use Rattle.truncation.specs.StepLaws.{int-same, int-up, int-up-carried}
 use Rattle.truncation.proofs.whole.floor_of.Statement.{statement}
 use Rattle.truncation.proofs.whole.floor_of.Tie as tie
@@ -45,40 +45,28 @@ returns c =
 
 returns-2 : tie.Need-returns-2
 returns-2 c =
-    let d = c .before .before .before .before in
-    cut-short Shipped (x d) (omega arith) (omega arith) (omega arith) (omega arith) (omega arith) .whole (sym (cut d) ∙ c .before .before .if3 .taken)
-    ∙ ap (λ (w : ℕ). Done (number 0 w)) (sym (c .halves-word .ensures ∙ ap (λ (h : ℕ). halves 255 h .word) (c .before .complement .ensures)))
+    let d = c .before in
+    int-same Shipped (x d) (omega arith) (omega arith) (omega arith) (omega arith) (other d) (sym (cut d) ∙ c .if2 .taken)
 
 returns-3 : tie.Need-returns-3
 returns-3 c =
     let d = c .before .before .before in
-    short-down (x d) (omega arith) (omega arith) (omega arith) (omega arith) (omega arith) (λ e. c .before .if3 .left (cut d ∙ e))
-    ∙ ap (λ (w : ℕ). Done (number 0 w)) (sym (c .halves-word2 .ensures))
+    let r = raised d (omega arith) in
+    int-up Shipped (x d) (omega arith) (omega arith) (omega arith) (omega arith) (other d) (λ e. c .before .before .if2 .left (cut d ∙ e)) (omega arith)
+    ∙ ap (λ (w : ℕ). Done (number (x d .b1) w)) (sym (c .full-word .ensures ∙ ap (λ (m : ℕ). fullOf 1 0 m .word) r))
 
 returns-4 : tie.Need-returns-4
 returns-4 c =
-    let d = c .before .before in
-    int-same Shipped (x d) (omega arith) (omega arith) (omega arith) (omega arith) (other d) (sym (cut d) ∙ c .if4 .taken)
-
-returns-5 : tie.Need-returns-5
-returns-5 c =
-    let d = c .before .before .before .before in
-    let r = raised d (omega arith) in
-    int-up Shipped (x d) (omega arith) (omega arith) (omega arith) (omega arith) (other d) (λ e. c .before .before .if4 .left (cut d ∙ e)) (omega arith)
-    ∙ ap (λ (w : ℕ). Done (number (x d .b1) w)) (sym (c .full-word .ensures ∙ ap (λ (m : ℕ). fullOf 1 0 m .word) r))
-
-returns-6 : tie.Need-returns-6
-returns-6 c =
-    let d = c .before .before .before .before in
+    let d = c .before .before .before in
     let r = raised d (omega arith) in
     let less = cleared-le (mantissa (x d)) (places d) in
-    int-up-carried Shipped (x d) (omega arith) (omega arith) (omega arith) (omega arith) (other d) (λ e. c .before .before .if4 .left (cut d ∙ e))
+    int-up-carried Shipped (x d) (omega arith) (omega arith) (omega arith) (omega arith) (other d) (λ e. c .before .before .if2 .left (cut d ∙ e))
     (omega arith) (omega (arith, bit (places d) (omega arith) .1))
     ∙ ap (λ (w : ℕ). Done (number (x d .b1 + 1) w)) (sym (c .full-word2 .ensures ∙ ap (λ (m : ℕ). fullOf 1 0 (m / 2) .word) r))
 
 add-more : tie.Need-add-more
 add-more c =
-    let d = c .before .before in
+    let d = c .before in
     omega (arith, raised d (omega arith), cleared-le (mantissa (x d)) (places d), bit (places d) (omega arith) .1)
 
 pub floor-of-spec : {M : Type 1} → statement M
@@ -94,21 +82,12 @@ floor-of-spec =
     (λ c. omega arith)
     (λ c. omega arith)
     (λ c. omega arith)
-    (λ c. omega arith)
-    (λ c. omega arith)
-    (λ c. record { fits = dropped-lt _ _ (omega arith) (omega arith) })
-    (λ c κs. tt)
-    (λ c κs. tt)
     returns-2
-    (λ c. omega (arith, dropped-lt (mantissa (x (c .before .before))) (places (c .before .before)) (omega arith) (omega arith)))
-    (λ c κs. tt)
-    returns-3
-    returns-4
     (λ c. omega arith)
     (λ c. omega arith)
     add-more
     (λ c κs. tt)
-    returns-5
+    returns-3
     (λ c. omega arith)
     (λ c κs. tt)
-    returns-6)
+    returns-4)
