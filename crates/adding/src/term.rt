@@ -6,7 +6,7 @@ ghost use Rattle.adding.specs.Sum.{flips};
 ghost use Rattle.adding.specs.Term.{term_of};
 
 // A zero has the exponent byte 1, which moves nothing: the compiler then knows that none is 0.
-#[derive(Drop)]
+#[derive(Clone, Copy)]
 pub(crate) struct Summand {
     pub malformed: bool,
     pub x: i64,

@@ -5,7 +5,7 @@ ghost use Rattle.addition.specs.ShortRouteLaws.{carry_of};
 ghost use Rattle.addition.specs.SecondHalves.{second_halves, added_halves};
 ghost use Rattle.addition.specs.SignBytes.{Says, seventeen_of};
 
-#[derive(Drop)]
+#[derive(Clone, Copy)]
 pub enum Short {
     Malformed,
     // The sum's sign byte and low half.
@@ -16,7 +16,7 @@ pub enum Short {
     Beyond,
 }
 
-#[derive(Drop)]
+#[derive(Clone, Copy)]
 struct Halves {
     byte: u8,
     low: u16,

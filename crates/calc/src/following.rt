@@ -5,7 +5,7 @@ use edition::Edition;
 use libc::{STDERR_FILENO, STDIN_FILENO, STDOUT_FILENO};
 
 // Where the program stands: the edition that the sheet has named, the stack's depth, how many bytes of the line are held, and the line's number.
-#[derive(Drop)]
+#[derive(Clone, Copy)]
 struct Place {
     edition: Edition,
     depth: usize,

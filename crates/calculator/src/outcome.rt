@@ -1,5 +1,5 @@
 // What a run answers beside the bytes that it leaves: its report, how many literals were done, and the depth after them.
-#[derive(Drop)]
+#[derive(Clone, Copy)]
 pub struct RunOutcome {
     pub report: u8,
     pub position: usize,
@@ -7,7 +7,7 @@ pub struct RunOutcome {
 }
 
 // Where a run stopped.
-#[derive(Drop)]
+#[derive(Clone, Copy)]
 pub(crate) struct Stop {
     pub(crate) report: u8,
     pub(crate) position: usize,

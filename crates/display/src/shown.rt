@@ -1,5 +1,5 @@
 // What a display cell shows.
-#[derive(Drop)]
+#[derive(Clone, Copy)]
 pub enum Cell {
     Refused(u8),
     Blank,

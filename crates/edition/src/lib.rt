@@ -2,7 +2,7 @@
 ghost use Rattle.std.specs.Prelude.{◌≡◌};
 ghost use Rattle.edition.specs.Edition.{unnamed};
 
-#[derive(Drop)]
+#[derive(Clone, Copy)]
 pub enum Edition {
     Shipped,
     Mended,

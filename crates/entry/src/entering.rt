@@ -5,7 +5,7 @@ ghost use Rattle.entry.specs.Entry.{line_recorded};
 use crate::records;
 
 // The depth after a line, the place after its record, and how much was put for standard error: nothing where the line was taken.
-#[derive(Drop)]
+#[derive(Clone, Copy)]
 pub struct Recorded {
     pub depth: usize,
     pub end: usize,

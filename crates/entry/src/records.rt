@@ -8,7 +8,7 @@ use edition::Edition;
 use sheet::Line;
 
 // The depth after a step, and the place after its record.
-#[derive(Drop)]
+#[derive(Clone, Copy)]
 pub(crate) struct Kept {
     pub(crate) depth: usize,
     pub(crate) end: usize,

@@ -9,7 +9,7 @@ use ending::Answer;
 use number::Number;
 
 // What two numbers whose b1 is 0 come to, unless one is malformed.
-#[derive(Drop)]
+#[derive(Clone, Copy)]
 pub struct Product {
     pub malformed: bool,
     pub b1: u8,

@@ -67,7 +67,7 @@ fn short_route(stack: &mut [u8], depth: &mut usize, old: usize) -> u8
 
 // A full number's mantissa, whose top bit goes without saying, what it is multiplied by, the sum of their exponent bytes, and the sign on top of a word. A short
 // number is multiplied by as it is, with the exponent byte 160.
-#[derive(Drop)]
+#[derive(Clone, Copy)]
 struct Factors {
     malformed: bool,
     sign: u32,

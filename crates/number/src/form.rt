@@ -4,7 +4,7 @@ ghost use Rattle.number.specs.Number.{form_of};
 
 use super::Number;
 
-#[derive(Drop)]
+#[derive(Clone, Copy)]
 pub enum Form {
     Full,
     Short,

@@ -13,7 +13,7 @@ pub use zeros::leading_zeros;
 
 // A number is five bytes b1 to b5. The word is b2 to b5, high byte first. It stands before b1 so that the compiler, which moves the struct as one
 // machine word, has it in the low half and stores its bytes at once.
-#[derive(Drop)]
+#[derive(Clone, Copy)]
 pub struct Number {
     pub word: u32,
     pub b1: u8,

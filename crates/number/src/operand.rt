@@ -7,7 +7,7 @@ use super::parts::low_half;
 use super::zeros::leading_zeros;
 
 // The sign is the top bit of a word, whatever its other bits are. The mantissa's top bit goes without saying. A zero has mantissa 0 and exponent byte 0.
-#[derive(Drop)]
+#[derive(Clone, Copy)]
 pub struct Operand {
     pub malformed: bool,
     pub sign: u32,
@@ -16,7 +16,7 @@ pub struct Operand {
 }
 
 // How far a number whose b1 is 0 is from zero, and a mask of its b2: all ones where it is negative, else 0.
-#[derive(Drop)]
+#[derive(Clone, Copy)]
 pub struct Magnitude {
     pub malformed: bool,
     pub mask: u32,

@@ -1,7 +1,7 @@
 // Why a line can't be taken.
 use sheet::Fault;
 
-#[derive(Drop)]
+#[derive(Clone, Copy)]
 pub enum Why {
     // It can.
     None,

@@ -4,7 +4,7 @@ ghost use Rattle.std.specs.Prelude.{◌<◌};
 use libc::{STDERR_FILENO, STDIN_FILENO, STDOUT_FILENO};
 
 // Where the program stands: the stack's depth, the place after the last record, how many bytes of the line are held, and the line's number.
-#[derive(Drop)]
+#[derive(Clone, Copy)]
 struct Place {
     depth: usize,
     end: usize,

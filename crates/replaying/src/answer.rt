@@ -1,12 +1,12 @@
 // What a replay answers beside the bytes that it leaves.
-#[derive(Drop)]
+#[derive(Clone, Copy)]
 pub enum Field {
     Report,
     Depth,
     Top,
 }
 
-#[derive(Drop)]
+#[derive(Clone, Copy)]
 pub enum Verdict {
     // How many records there are.
     Agree(usize),
@@ -16,7 +16,7 @@ pub enum Verdict {
     Refused(u8),
 }
 
-#[derive(Drop)]
+#[derive(Clone, Copy)]
 pub struct Replayed {
     pub verdict: Verdict,
     // Of the step that differs, and else 0.

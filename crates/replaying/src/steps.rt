@@ -66,7 +66,7 @@ pub fn top_differs(stack: &[u8], depth: usize, bytes: &[u8]) -> bool
 }
 
 // What a step left, held to its record.
-#[derive(Drop)]
+#[derive(Clone, Copy)]
 pub(crate) enum Held {
     Agrees,
     // The step's report.

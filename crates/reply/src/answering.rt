@@ -7,7 +7,7 @@ use calculator::Edition;
 use sheet::Line;
 
 // The depth and the edition after a line, whether another step may be done, and how much was put for standard output and for standard error.
-#[derive(Drop)]
+#[derive(Clone, Copy)]
 pub struct Answered {
     pub depth: usize,
     pub edition: Edition,

@@ -2,7 +2,7 @@
 use edition::Edition;
 use number::Number;
 
-#[derive(Drop)]
+#[derive(Clone, Copy)]
 pub enum Line {
     // Blank, or a comment.
     Nothing,
@@ -14,7 +14,7 @@ pub enum Line {
 }
 
 // Why a line can't be read.
-#[derive(Drop)]
+#[derive(Clone, Copy)]
 pub enum Fault {
     LongLine,
     // A number alone: it may be meant to be pushed, or for a literal.

@@ -2,7 +2,7 @@
 use libc::STDIN_FILENO;
 
 // How many bytes were taken, and whether the input could be read.
-#[derive(Drop)]
+#[derive(Clone, Copy)]
 pub struct Taken {
     pub held: usize,
     pub read: bool,

@@ -5,7 +5,7 @@ ghost use Rattle.std.specs.Prelude.{◌≤◌, length};
 const LOST: usize = 18446744073709551615;
 
 // A number, or how many bytes were read, and the place after it.
-#[derive(Drop)]
+#[derive(Clone, Copy)]
 pub(crate) struct Field {
     pub(crate) value: usize,
     pub(crate) next: usize,
