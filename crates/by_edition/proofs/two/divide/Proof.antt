@@ -15,9 +15,9 @@ use Rattle.literals.specs.Literals.{row_of}
 use Rattle.literals.specs.Reports.{malformed_in}
 use Rattle.literals.specs.Operate.{outcome}
 use Rattle.literals.specs.WayLaws.{two_lacking, two_malformed, two_too_big, two_done}
-use Rattle.either.specs.EitherLaws.{pair_refused, formed, formless}
-use Rattle.either.proofs.two.divide.Statement.{statement}
-use Rattle.either.proofs.two.divide.Tie as tie
+use Rattle.by_edition.specs.EitherLaws.{pair_refused, formed, formless}
+use Rattle.by_edition.proofs.two.divide.Statement.{statement}
+use Rattle.by_edition.proofs.two.divide.Tie as tie
 
 abbrev ed : tie.Else2 → Edition
 ed c = c.before.before.before.before.before.before.before.before.args.edition

@@ -12,10 +12,10 @@ use Rattle.slots.specs.Reach.{number_at}
 use Rattle.slots.specs.ReachLaws.{number_bytes}
 use Rattle.literals.specs.Literals.{row_of}
 use Rattle.odd.specs.Mending.{minds}
-use Rattle.either.specs.EitherLaws.{Follows, leaves, top_refused, top_follows}
-use Rattle.either.specs.IntLaws.{tests, int_taken}
-use Rattle.either.proofs.one.int.Statement.{statement}
-use Rattle.either.proofs.one.int.Tie as tie
+use Rattle.by_edition.specs.EitherLaws.{Follows, leaves, top_refused, top_follows}
+use Rattle.by_edition.specs.IntLaws.{tests, int_taken}
+use Rattle.by_edition.proofs.one.int.Statement.{statement}
+use Rattle.by_edition.proofs.one.int.Tie as tie
 
 -- the number on top, made of bytes, is not odd
 abbrev top : tie.Else1 → Number

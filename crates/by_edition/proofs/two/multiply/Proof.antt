@@ -3,9 +3,9 @@ use borrow.Author.Rules.{rules}
 use mathlib.Core.Path.{refl, sym, ◌∙◌}
 use Rattle.multiplication.specs.Multiplication.{product_of}
 use Rattle.literals.specs.Literals.{row_of}
-use Rattle.either.specs.EitherLaws.{pair_refused, pair_same}
-use Rattle.either.proofs.two.multiply.Statement.{statement}
-use Rattle.either.proofs.two.multiply.Tie as tie
+use Rattle.by_edition.specs.EitherLaws.{pair_refused, pair_same}
+use Rattle.by_edition.proofs.two.multiply.Statement.{statement}
+use Rattle.by_edition.proofs.two.multiply.Tie as tie
 
 pub multiply_spec : {M : Type 1} → statement M
 unfolding row_of

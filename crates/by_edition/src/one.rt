@@ -1,7 +1,7 @@
 // Negate, int, truncate and re-stack.
 ghost use Rattle.std.specs.Prelude.{◌≡◌};
 ghost use Rattle.slots.specs.Reach.{number_at};
-ghost use Rattle.either.specs.IntLaws.{taken_in, int_top};
+ghost use Rattle.by_edition.specs.IntLaws.{taken_in, int_top};
 ghost use Rattle.literals.specs.Operate.{outcome, operate_of};
 
 use edition::Edition;

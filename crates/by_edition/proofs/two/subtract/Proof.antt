@@ -4,9 +4,9 @@ use mathlib.Core.Path.{refl, sym, ◌∙◌}
 use Rattle.addition.specs.Addition.{difference_of}
 use Rattle.addition.specs.MendedLaws.{difference_mended}
 use Rattle.literals.specs.Literals.{row_of}
-use Rattle.either.specs.EitherLaws.{Follows, leaves, pair_refused, pair_follows}
-use Rattle.either.proofs.two.subtract.Statement.{statement}
-use Rattle.either.proofs.two.subtract.Tie as tie
+use Rattle.by_edition.specs.EitherLaws.{Follows, leaves, pair_refused, pair_follows}
+use Rattle.by_edition.proofs.two.subtract.Statement.{statement}
+use Rattle.by_edition.proofs.two.subtract.Tie as tie
 
 follows : (c : tie.After-subtract) → Follows _ _ 3 _ _ _ c.subtract.ensures c.before.before.before.before.before.before.before.before.args.edition
 unfolding row_of

@@ -4,9 +4,9 @@ use mathlib.Core.Path.{refl, sym, ◌∙◌}
 use Rattle.addition.specs.Addition.{sum_of}
 use Rattle.addition.specs.MendedLaws.{sum_mended}
 use Rattle.literals.specs.Literals.{row_of}
-use Rattle.either.specs.EitherLaws.{Follows, leaves, pair_refused, pair_follows}
-use Rattle.either.proofs.two.add.Statement.{statement}
-use Rattle.either.proofs.two.add.Tie as tie
+use Rattle.by_edition.specs.EitherLaws.{Follows, leaves, pair_refused, pair_follows}
+use Rattle.by_edition.proofs.two.add.Statement.{statement}
+use Rattle.by_edition.proofs.two.add.Tie as tie
 
 follows : (c : tie.After-add) → Follows _ _ 15 _ _ _ c.add.ensures c.before.before.before.before.before.before.before.before.args.edition
 unfolding row_of

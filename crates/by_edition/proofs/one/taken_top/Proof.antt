@@ -7,9 +7,9 @@ use Rattle.number.specs.declared.Number.{Number}
 use Rattle.number.specs.Number.{number}
 use Rattle.truncation.specs.Truncate.{taken65536}
 use Rattle.slots.specs.Reach.{number_at}
-use Rattle.either.specs.IntLaws.{taken_in}
-use Rattle.either.proofs.one.taken_top.Statement.{statement}
-use Rattle.either.proofs.one.taken_top.Tie as tie
+use Rattle.by_edition.specs.IntLaws.{taken_in}
+use Rattle.by_edition.proofs.one.taken_top.Statement.{statement}
+use Rattle.by_edition.proofs.one.taken_top.Tie as tie
 
 abbrev top : tie.After-shared-slice-known → Number
 top c = number_at c.before.args.stack.now c.before.args.depth 0

@@ -10,9 +10,9 @@ use Rattle.slots.specs.Reach.{number_at}
 use Rattle.slots.specs.ReachLaws.{number_bytes}
 use Rattle.literals.specs.Literals.{row_of}
 use Rattle.odd.specs.Mending.{minds}
-use Rattle.either.specs.EitherLaws.{Follows, leaves, top_refused, top_follows}
-use Rattle.either.proofs.one.truncate.Statement.{statement}
-use Rattle.either.proofs.one.truncate.Tie as tie
+use Rattle.by_edition.specs.EitherLaws.{Follows, leaves, top_refused, top_follows}
+use Rattle.by_edition.proofs.one.truncate.Statement.{statement}
+use Rattle.by_edition.proofs.one.truncate.Tie as tie
 
 follows : (c : tie.After-truncate) → Follows _ _ 58 _ _ _ c.truncate.ensures c.before.before.before.before.before.before.before.args.edition
 unfolding row_of

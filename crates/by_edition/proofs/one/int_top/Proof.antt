@@ -6,9 +6,9 @@ use mathlib.Core.List.{List}
 use borrow.Author.Tests.{eq-eqb, ne_eqb}
 use Rattle.number.specs.Number.{number}
 use Rattle.slots.specs.Reach.{number_at, put_at}
-use Rattle.either.specs.IntLaws.{int_top}
-use Rattle.either.proofs.one.int_top.Statement.{statement}
-use Rattle.either.proofs.one.int_top.Tie as tie
+use Rattle.by_edition.specs.IntLaws.{int_top}
+use Rattle.by_edition.proofs.one.int_top.Statement.{statement}
+use Rattle.by_edition.proofs.one.int_top.Tie as tie
 
 module _ (s : List ℕ) (d : ℕ) where
   lowered : ((number_at s d 0).word ≡ 2 ^ 31 → ⊥) → put_at s d 0 (number 145 (2 ^ 31 + 2 ^ 15)) ≡ int_top s d

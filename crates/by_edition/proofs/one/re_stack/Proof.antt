@@ -4,9 +4,9 @@ use mathlib.Core.Path.{refl, sym, ◌∙◌}
 use Rattle.number.specs.Restack.{restacked}
 use Rattle.ending.specs.declared.answer.Answer.TheVariants.{Done}
 use Rattle.literals.specs.Literals.{row_of}
-use Rattle.either.specs.EitherLaws.{top_refused, top_same}
-use Rattle.either.proofs.one.re_stack.Statement.{statement}
-use Rattle.either.proofs.one.re_stack.Tie as tie
+use Rattle.by_edition.specs.EitherLaws.{top_refused, top_same}
+use Rattle.by_edition.proofs.one.re_stack.Statement.{statement}
+use Rattle.by_edition.proofs.one.re_stack.Tie as tie
 
 pub re_stack_spec : {M : Type 1} → statement M
 unfolding row_of
