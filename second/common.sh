@@ -42,11 +42,12 @@ build() {
 program() {
     local file="$root/target/bin/$1" newer=
     [ ! -x "$file" ] ||
-        newer=$(find "$root/crates.txt" "$root/crates" -newer "$file" ! -path '*/must-fail/*' -type f -print -quit)
+        newer=$(find "$root/crates.txt" "$root/crates" -newer "$file" ! -path '*/must-fail/*' ! -path '*/out/*' -type f -print -quit)
     if [ ! -x "$file" ] || [ -n "$newer" ]; then
         need rt "it proves and builds $1"
-        (cd "$root" && rt check "$1") >&2
-        touch "$file"
+        (cd "$root/crates/$1" && rt run </dev/null) >&2
+        mkdir -p "${file%/*}"
+        cp "$root/crates/$1/out/$1" "$file"
     fi
 }
 
@@ -54,8 +55,10 @@ program() {
 archive() {
     if [ -z "${TRENAILER_LIB:-}" ]; then
         need rt "it proves and builds the static library"
-        (cd "$root" && rt staticlib trenailer) >&2
+        (cd "$root/crates/trenailer_c" && rt lib) >&2
         TRENAILER_LIB="$root/target/staticlib/libtrenailer.a"
+        mkdir -p "${TRENAILER_LIB%/*}"
+        cp "$root/crates/trenailer_c/out/libtrenailer_c.a" "$TRENAILER_LIB"
     fi
     [ -f "$TRENAILER_LIB" ] || fail "no archive at $TRENAILER_LIB"
     TRENAILER_LIB=$(realpath "$TRENAILER_LIB")
