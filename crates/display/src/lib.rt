@@ -1,4 +1,6 @@
 // A display cell, made from a report and the stack after it. A case that refuses holds no value.
+#![tactic(auto)]
+
 mod showing;
 mod shown;
 

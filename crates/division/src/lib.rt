@@ -1,4 +1,6 @@
 // Division of re-stacked numbers by value.
+#![tactic(auto)]
+
 mod quotient;
 
 pub use quotient::division;

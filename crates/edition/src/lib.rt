@@ -1,4 +1,6 @@
 // Which ROM's arithmetic is meant: the shipped one's, faults included, or the one that a branch had corrected.
+#![tactic(auto)]
+
 ghost use Rattle.std.specs.Prelude.{◌≡◌};
 ghost use Rattle.edition.specs.Edition.{unnamed};
 

@@ -1,4 +1,6 @@
 // Multiplication of numbers by value.
+#![tactic(auto)]
+
 mod product;
 
 pub use product::{Product, multiplication, short_product};

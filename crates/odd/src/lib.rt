@@ -1,4 +1,6 @@
 // Odd, document 01's term for 00 FF 00 00: among a literal's operands, and as its answer.
+#![tactic(auto)]
+
 ghost use Rattle.std.specs.Prelude.{◌≡◌};
 ghost use Rattle.number.specs.Number.{odd};
 ghost use Rattle.slots.specs.Reach.{number_at};

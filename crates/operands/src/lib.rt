@@ -1,4 +1,6 @@
 // What the literals that take two numbers and look at their forms have in common: an operand read, and the answer stored.
+#![tactic(auto)]
+
 mod reading;
 mod storing;
 

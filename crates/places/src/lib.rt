@@ -1,5 +1,7 @@
 // Where the bytes of a number stand: slot i is bytes 5i to 5i+4. A number is asked for by how many stand above it: none above the top, one
 // above the lower operand. Where the stack lacks it, it reads as zero and nothing is written; a caller that has asked `lacks` pays nothing for that.
+#![tactic(auto)]
+
 ghost use Rattle.std.specs.Prelude.{◌≡◌, ◌+◌, ◌*◌, ◌≤◌, max, not, length};
 ghost use Rattle.number.specs.Number.{number as number_of, b2, low, malformed, halves, stored_over, swapped_of};
 ghost use Rattle.slots.specs.Slots.{put_in};

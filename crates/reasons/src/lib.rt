@@ -1,4 +1,6 @@
 // Why a line of a sheet can't be recorded, and what standard error has of it then.
+#![tactic(auto)]
+
 mod complaints;
 mod why;
 

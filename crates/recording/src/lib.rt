@@ -1,4 +1,6 @@
 // A recorded count: records of 16 bytes, a step each. The fields of a record, and whether bytes are a recording at all.
+#![tactic(auto)]
+
 mod fields;
 mod whole;
 

@@ -1,4 +1,6 @@
 // A sheet of steps for the calculator, one to a line: what a line says.
+#![tactic(auto)]
+
 mod decimal;
 mod meaning;
 mod numbers;

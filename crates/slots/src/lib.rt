@@ -1,4 +1,6 @@
 // The lent stack: its limits, whether it has the numbers that a literal takes, and a view of its top.
+#![tactic(auto)]
+
 mod limits;
 mod outcome;
 mod reach;

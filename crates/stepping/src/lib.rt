@@ -1,5 +1,7 @@
 // The table of literals in the shipped edition, for a loop over one stack: one for each loop, called from that one place. The compiler then has it inside the loop, and
 // the table of `operation` stays inside the one call that it is made for.
+#![tactic(auto)]
+
 ghost use Rattle.std.specs.Prelude.{◌≡◌};
 ghost use Rattle.edition.specs.declared.Edition.TheVariants.{Shipped};
 ghost use Rattle.literals.specs.Operate.{operate_of, outcome};

@@ -1,5 +1,7 @@
 // Numbers as text, put into a buffer that the caller lends from a place on: each function answers the place after what it put, and
 // leaves out what finds no room.
+#![tactic(auto)]
+
 mod decimal;
 mod digit;
 mod hexadecimal;

@@ -1,4 +1,6 @@
 // Truncation towards zero, and int, the whole part towards minus infinity. Both take any five bytes for a number.
+#![tactic(auto)]
+
 mod cutting;
 mod whole;
 

@@ -1,4 +1,6 @@
 // The literals that take one number and look at its form: negate, int, truncate and re-stack. None is ever too big, and none moves the depth.
+#![tactic(auto)]
+
 ghost use Rattle.std.specs.Prelude.{◌≡◌};
 ghost use Rattle.edition.specs.declared.Edition.TheVariants.{Shipped};
 ghost use Rattle.literals.specs.Operate.{outcome, operate_of};

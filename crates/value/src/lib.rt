@@ -1,4 +1,6 @@
 // The value of a five-byte number as a 64-bit double, always exact. It takes any five bytes for a number.
+#![tactic(auto)]
+
 ghost use Rattle.std.specs.Prelude.{◌≡◌};
 ghost use Rattle.number.specs.Number.{number};
 ghost use Rattle.value.specs.Double.{double_of};

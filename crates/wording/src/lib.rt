@@ -1,4 +1,6 @@
 // What the programs that read sheets and recordings say alike: what a step gave, and which line it is that can't be taken.
+#![tactic(auto)]
+
 mod places;
 mod steps;
 

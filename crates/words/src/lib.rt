@@ -1,4 +1,6 @@
 // The words of a line: what stands before its comment, the blanks around it, and what follows a word.
+#![tactic(auto)]
+
 mod beginning;
 mod blanks;
 mod following;

@@ -1,0 +1,63 @@
+-- `aligned_sum` meets its contract: the larger comes first by a choice (`larger_chosen`).
+use Rattle.std.proofs.Common.{Bool, SFits, ap, ap₂, arith, cond, false, ltb, nat_abs, of_z, pos, sym, to_z, to_z-of_z, true, w64, ℕ, ℤ, ◌%◌, ◌*◌, ◌+ℤ◌, ◌+◌, ◌-◌, ◌<◌, ◌^◌, ◌∙◌, ◌≡◌}
+use lib.Signed.{rem_z}
+use Rattle.addition.specs.Addition.{aligned, ended_sum}
+use Rattle.addition.specs.SignedLaws.{low_bits_lt, held}
+use Rattle.addition.specs.MantissaLaws.{larger_chosen}
+use Rattle.addition.proofs.sum.aligned_sum.Goals as goal
+use Rattle.addition.proofs.sum.aligned_sum.Goals.{After-chosen, After-chosen-2, After-low_bits-n, Start}
+
+abbrev cut : ℤ → ℤ
+cut z = rem_z z (pos 4294967296)
+
+below : (z : ℤ) → nat_abs (cut z) < 2 ^ 32
+below z = low_bits_lt z 4294967296 (omega arith)
+
+either : (b : Bool) (y z : ℤ) → nat_abs (cond b (cut y) (cut z)) < 2 ^ 32
+either true y z = below y
+either false y z = below z
+
+-- an integer's low bits, as they are handed on
+handed : (z r : ℤ) → SFits w64 z → r ≡ cut (to_z w64 (of_z w64 z)) → to_z w64 (of_z w64 r) ≡ cut z
+handed z r f e = held _ _ (e ∙ ap cut (to_z-of_z f)) (omega (arith, below z))
+
+x : (c : After-low_bits-n) → to_z w64 (of_z w64 c.low_bits-m.result) ≡ cut c.args.x
+x c = handed _ _ c.ranges.x c.low_bits-m.ensures
+
+y : (c : After-low_bits-n) → to_z w64 (of_z w64 c.low_bits-n.result) ≡ cut c.args.y
+y c = handed _ _ c.ranges.y c.low_bits-n.ensures
+
+-- one of the two, as it is handed on
+picked : (b : Bool) (r p q y z : ℤ) → r ≡ cond b p q → p ≡ cut y → q ≡ cut z → to_z w64 (of_z w64 r) ≡ cond b (cut y) (cut z)
+picked b r p q y z e f g = held _ _ (e ∙ ap₂ (cond b) f g) (omega (arith, either b y z))
+
+-- which exponent byte is the larger
+unfoldable late : Start → Bool
+late c = ltb (c.args.e % 256) (c.args.f % 256)
+
+large : (c : After-chosen) → (let i = c in to_z w64 (of_z w64 c.chosen.result) ≡ cond (late c.before.before.before.before) (cut i.args.y) (cut i.args.x))
+unfolding late
+large c =
+    let d = c in
+    let i = c in
+    picked (late c.before.before.before.before) _ _ _ i.args.y i.args.x c.chosen.ensures (y c.before.before) (x c.before.before)
+
+small : (c : After-chosen-2) → (let i = c in to_z w64 (of_z w64 c.chosen-2.result) ≡ cond (late c.before.before.before.before.before) (cut i.args.x) (cut i.args.y))
+unfolding late
+small c =
+    let d = c in
+    let i = c in
+    picked (late c.before.before.before.before.before) _ _ _ i.args.x i.args.y c.chosen-2.ensures (x c.before.before.before) (y c.before.before.before)
+
+pub returns : goal.returns
+unfolding late
+returns c =
+    let d = c in
+    let i = c in
+    let e = i.args.e % 256 in
+    let f = i.args.f % 256 in
+    let n = d.larger-most.result in
+    c.summed.ensures
+    ∙ ap₂ (λ (j k : ℤ). ended_sum (j +ℤ aligned (2 * n - (e + f)) k) n) (large c.before.before) (small c.before)
+    ∙ ap (λ (m : ℕ). ended_sum (cond (late c.before.before.before.before.before.before) (cut i.args.y) (cut i.args.x) +ℤ aligned (2 * m - (e + f)) (cond (late c.before.before.before.before.before.before) (cut i.args.x) (cut i.args.y))) m) d.larger-most.ensures
+    ∙ sym (larger_chosen (cut i.args.x) (cut i.args.y) e f)

@@ -1,0 +1,39 @@
+-- `truncate` meets its contract: the tests that led to each `return` are the premises of a case law. The whole part fits sixteen bits, since at
+-- least sixteen places are shifted out, and clearing places makes no number larger.
+use Rattle.std.proofs.Common.{ap, arith, lt_of_le_of_lt, mod-eq_of_lt, sym, ℕ, ◌%◌, ◌*◌, ◌-◌, ◌/◌, ◌<◌, ◌^◌, ◌∙◌, ◌≡◌}
+use Rattle.edition.specs.declared.Edition.TheVariants.{Shipped}
+use Rattle.number.specs.Number.{number}
+use Rattle.truncation.specs.Truncate.{cleared}
+use Rattle.truncation.specs.TruncateLaws.{taken_not_145, truncate_full, truncate_not_full, truncate_below_one, truncate_to_short, truncate_taken, truncate_cleared, truncate_whole}
+use Rattle.truncation.specs.BitLaws.{cleared_le, dropped_lt}
+use Rattle.truncation.proofs.cutting.truncate.Goals as goal
+
+clearing_fits : (w k : ℕ) → w < 2 ^ 32 → (w / 2 ^ k * 2 ^ k) % 2 ^ 32 ≡ cleared k w
+clearing_fits w k h = mod-eq_of_lt (lt_of_le_of_lt (cleared_le w k) h)
+
+pub returns-then-e-lt145 : goal.returns-then-e-lt145
+returns-then-e-lt145 c =
+    ap (number 0) c.short_word.ensures ∙ sym (truncate_full Shipped _ (omega arith) ∙ truncate_to_short Shipped _ (omega arith) (omega arith))
+
+pub returns-then-is_taken_65536 : goal.returns-then-is_taken_65536
+returns-then-is_taken_65536 c =
+    sym (truncate_full Shipped _ (omega arith) ∙ truncate_taken Shipped _ (omega arith) (sym c.is_taken_65536.ensures ∙ c.if-is_taken_65536.true))
+
+pub returns : goal.returns
+returns c =
+    let n = c in
+    let x = n.args.x in
+    ap (number x.b1) (clearing_fits x.word (160 - x.b1) (omega arith))
+    ∙ sym (truncate_full Shipped x (omega arith) ∙ truncate_cleared Shipped x (omega arith) (sym n.is_taken_65536.ensures ∙ c.if-is_taken_65536.false) (omega arith))
+
+pub returns-then-e-eq0 : goal.returns-then-e-eq0
+returns-then-e-eq0 c = sym (truncate_not_full Shipped _ (omega arith))
+
+pub returns-then-e-lt129 : goal.returns-then-e-lt129
+returns-then-e-lt129 c = sym (truncate_full Shipped _ (omega arith) ∙ truncate_below_one Shipped _ (omega arith))
+
+pub returns-then-e-gt159 : goal.returns-then-e-gt159
+returns-then-e-gt159 c = sym (truncate_full Shipped _ (omega arith) ∙ truncate_whole Shipped _ (omega arith) (taken_not_145 _ Shipped (omega arith)) (omega arith))
+
+pub overflow_cast-v-then-e-lt145 : goal.overflow_cast-v-then-e-lt145
+overflow_cast-v-then-e-lt145 c = record { fits = dropped_lt _ _ (omega arith) (omega arith) }
