@@ -1,8 +1,6 @@
 // Reading the sheet and writing the answers. Input comes in parts of any size; what is kept between them is the line so far.
-ghost use Rattle.std.specs.Prelude.{◌<◌};
-
 use edition::Edition;
-use libc::{STDERR_FILENO, STDIN_FILENO, STDOUT_FILENO};
+use std::io::{Read, Write};
 
 // Where the program stands: the edition that the sheet has named, the stack's depth, how many bytes of the line are held, and the line's number.
 #[derive(Clone, Copy)]
@@ -22,149 +20,153 @@ struct Place {
 }
 
 // Whether all of it could be written; standard error says so if not.
-fn write(bytes: &[u8]) -> bool {
-    if io::write_all(STDOUT_FILENO, bytes) {
+fn write<W: Write, E: Write>(out: &mut W, err: &mut E, bytes: &[u8]) -> bool {
+    if out.write_all(bytes).is_ok() {
         return true;
     }
-    io::write_all(
-        STDERR_FILENO,
-        b"calc: standard output cannot be written; nothing more was done\n",
-    );
+    let _ = err.write_all(b"calc: standard output cannot be written; nothing more was done\n");
     false
 }
 
 // The number of the next line: of one that could not be read, its own, since it is typed again.
 fn next_number(number: u64, complained: usize) -> u64 {
     if complained == 0 {
-        return std::num::wrapping_add_u64(number, 1);
+        return number.wrapping_add(1);
     }
     number
 }
 
 // A whole line.
-fn end_line(stack: &mut [u8], line: &[u8], at: Place, terminal: bool, returned: bool) -> Place {
-    let edition = at.edition;
-    let mut out = [0u8; 64];
-    let mut err = [0u8; 256];
+fn end_line<W: Write, E: Write>(
+    out: &mut W,
+    err: &mut E,
+    stack: &mut [u8],
+    line: &[u8],
+    at: Place,
+    terminal: bool,
+    returned: bool,
+) -> Place {
+    let mut answer = [0u8; 64];
+    let mut complaint = [0u8; 256];
     let done = reply::answer_line(
-        edition,
+        at.edition,
         stack,
         at.depth,
         at.going,
         text::first(line, at.held),
         at.number,
         terminal,
-        &mut out,
-        &mut err,
+        &mut answer,
+        &mut complaint,
     );
-    let after = done.edition;
-    let written = write(text::first(&out, done.out));
-    io::write_all(STDERR_FILENO, text::first(&err, done.err));
+    let written = write(out, err, text::first(&answer, done.out));
+    let _ = err.write_all(text::first(&complaint, done.err));
     Place {
-        edition: after,
+        edition: done.edition,
         depth: done.depth,
         held: 0,
         number: next_number(at.number, done.err),
         returned,
-        going: both(done.going, written),
+        going: done.going && written,
         open: at.open,
-        owed: both(done.going, 0 < done.err),
+        owed: done.going && 0 < done.err,
     }
 }
 
-fn both(a: bool, b: bool) -> bool {
-    if a {
-        return b;
-    }
-    false
-}
-
-fn take_byte(stack: &mut [u8], line: &mut [u8], at: Place, terminal: bool, byte: u8) -> Place {
-    let edition = at.edition;
+fn take_byte<W: Write, E: Write>(
+    out: &mut W,
+    err: &mut E,
+    stack: &mut [u8],
+    line: &mut [u8],
+    at: Place,
+    terminal: bool,
+    byte: u8,
+) -> Place {
     let taken = lines::take(line, at.held, at.returned, byte);
     if taken.ended {
-        return end_line(stack, line, at, terminal, taken.returned);
+        return end_line(out, err, stack, line, at, terminal, taken.returned);
     }
     Place {
-        edition,
-        depth: at.depth,
         held: taken.held,
-        number: at.number,
         returned: taken.returned,
-        going: at.going,
-        open: at.open,
-        owed: at.owed,
+        ..at
     }
 }
 
-fn take_bytes(stack: &mut [u8], line: &mut [u8], at: Place, terminal: bool, bytes: &[u8]) -> Place {
+fn take_bytes<W: Write, E: Write>(
+    out: &mut W,
+    err: &mut E,
+    stack: &mut [u8],
+    line: &mut [u8],
+    at: Place,
+    terminal: bool,
+    bytes: &[u8],
+) -> Place {
     let mut now_at = at;
-    let mut i = 0;
-    while i < bytes.len() {
-        now_at = take_byte(stack, line, now_at, terminal, bytes[i]);
-        i += 1;
+    for byte in bytes {
+        now_at = take_byte(out, err, stack, line, now_at, terminal, *byte);
     }
     now_at
 }
 
 // One read. What is held of a line when the input can't be read is no line.
-fn read_some(stack: &mut [u8], line: &mut [u8], at: Place, terminal: bool) -> Place {
-    let edition = at.edition;
-    let mut bytes = io::buffer();
-    let got = libc::read(STDIN_FILENO, &mut bytes);
-    if got < 0 {
-        io::write_all(STDERR_FILENO, b"calc: standard input cannot be read\n");
+fn read_some<R: Read, W: Write, E: Write>(
+    input: &mut R,
+    out: &mut W,
+    err: &mut E,
+    stack: &mut [u8],
+    line: &mut [u8],
+    at: Place,
+    terminal: bool,
+) -> Place {
+    let mut bytes = [0u8; 4096];
+    match input.read(&mut bytes) {
+        Ok(0) => Place { open: false, ..at },
+        Ok(n) => take_bytes(out, err, stack, line, at, terminal, &bytes[..n]),
+        Err(_) => {
+            let _ = err.write_all(b"calc: standard input cannot be read\n");
+            Place {
+                going: false,
+                open: false,
+                ..at
+            }
+        }
     }
-    if got <= 0 {
-        return Place {
-            edition,
-            depth: at.depth,
-            held: at.held,
-            number: at.number,
-            returned: at.returned,
-            going: both(at.going, got == 0),
-            open: false,
-            owed: at.owed,
-        };
-    }
-    let n = io::count(got, &bytes);
-    take_bytes(stack, line, at, terminal, &bytes[..n])
 }
 
 // A last line needs no line feed.
-fn last_line(stack: &mut [u8], line: &[u8], at: Place, terminal: bool) -> Place {
+fn last_line<W: Write, E: Write>(
+    out: &mut W,
+    err: &mut E,
+    stack: &mut [u8],
+    line: &[u8],
+    at: Place,
+    terminal: bool,
+) -> Place {
     if 0 < at.held {
-        return end_line(stack, line, at, terminal, false);
+        return end_line(out, err, stack, line, at, terminal, false);
     }
     at
 }
 
 // The end of the input: a line that is still to be typed again was not read.
-fn finish(owed: bool) {
+fn finish<E: Write>(err: &mut E, owed: bool) {
     if owed {
-        io::write_all(
-            STDERR_FILENO,
-            b"calc: the last line could not be read, and was not typed again\n",
-        );
+        let _ = err.write_all(b"calc: the last line could not be read, and was not typed again\n");
     }
 }
 
-// A proved loop has to end, and nothing says that the input does: it counts down from a number that no run uses up.
-fn turns_left(turns: u64, going: bool) -> u64
-    requires { 0 < turns }
-    ensures { result < turns }
-{
-    if going {
-        return turns - 1;
-    }
-    0
-}
-
-pub fn follow(stack: &mut [u8], line: &mut [u8]) {
-    let terminal = libc::isatty(STDIN_FILENO) == 1;
-    let meant = edition::unnamed();
+// A proved loop has to end, and nothing says that the input does: it counts up to a number that no run reaches.
+pub fn follow<R: Read, W: Write, E: Write>(
+    input: &mut R,
+    out: &mut W,
+    err: &mut E,
+    terminal: bool,
+    stack: &mut [u8],
+    line: &mut [u8],
+) {
     let mut at = Place {
-        edition: meant,
+        edition: edition::unnamed(),
         depth: 0,
         held: 0,
         number: 1,
@@ -173,11 +175,12 @@ pub fn follow(stack: &mut [u8], line: &mut [u8]) {
         open: true,
         owed: false,
     };
-    let mut turns = u64::MAX;
-    while turns > 0 {
-        at = read_some(stack, line, at, terminal);
-        turns = turns_left(turns, both(at.open, at.going));
+    for _ in 0..u64::MAX {
+        if !at.open || !at.going {
+            break;
+        }
+        at = read_some(input, out, err, stack, line, at, terminal);
     }
-    let last = last_line(stack, line, at, terminal);
-    finish(last.owed);
+    let last = last_line(out, err, stack, line, at, terminal);
+    finish(err, last.owed);
 }

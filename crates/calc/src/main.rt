@@ -13,11 +13,23 @@
 //
 // A line that can't be read is answered by ? line N, where N is its number. Standard error says what is wrong with it, and no step is done
 // from there on; at a terminal it may be typed again.
+#![tactic(auto)]
+
+use std::io::IsTerminal;
+
 mod following;
 
-fn main() {
+fn main(rt: HostRuntime) {
     let mut stack = [0u8; 16000];
     // What stands before a line's comment has at most 65,535 bytes, and a byte-order mark three: one more tells a longer line.
     let mut line = [0u8; 65539];
-    following::follow(&mut stack, &mut line);
+    let terminal = rt.stdin().is_terminal();
+    following::follow(
+        &mut rt.stdin(),
+        &mut rt.stdout(),
+        &mut rt.stderr(),
+        terminal,
+        &mut stack,
+        &mut line,
+    );
 }

@@ -1,4 +1,6 @@
 // The calculator of the ZX Spectrum, on a stack that the caller lends: any bytes, any depth, any literals.
+#![tactic(auto)]
+
 mod named;
 mod outcome;
 mod running;

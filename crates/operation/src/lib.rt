@@ -1,4 +1,6 @@
 // One operation on the stack: the report that comes first, or the bytes and the depth that the literal leaves.
+#![tactic(auto)]
+
 ghost use Rattle.std.specs.Prelude.{◌≡◌};
 ghost use Rattle.edition.specs.Edition.{unnamed};
 ghost use Rattle.edition.specs.declared.Edition.TheVariants.{Shipped};

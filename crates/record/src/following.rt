@@ -1,7 +1,5 @@
 // Reading the sheet and writing the recording. Input comes in parts of any size; what is kept between them is the line so far.
-ghost use Rattle.std.specs.Prelude.{◌<◌};
-
-use libc::{STDERR_FILENO, STDIN_FILENO, STDOUT_FILENO};
+use std::io::{Read, Write};
 
 // Where the program stands: the stack's depth, the place after the last record, how many bytes of the line are held, and the line's number.
 #[derive(Clone, Copy)]
@@ -19,14 +17,15 @@ struct Place {
 }
 
 // A whole line.
-fn end_line(
+fn end_line<E: Write>(
+    err: &mut E,
     stack: &mut [u8],
     line: &[u8],
     recording: &mut [u8],
     at: Place,
     returned: bool,
 ) -> Place {
-    let mut err = [0u8; 256];
+    let mut complaint = [0u8; 256];
     let done = entry::record_line(
         stack,
         at.depth,
@@ -34,14 +33,14 @@ fn end_line(
         at.number,
         recording,
         at.end,
-        &mut err,
+        &mut complaint,
     );
-    io::write_all(STDERR_FILENO, text::first(&err, done.err));
+    let _ = err.write_all(text::first(&complaint, done.err));
     Place {
         depth: done.depth,
         end: done.end,
         held: 0,
-        number: std::num::wrapping_add_u64(at.number, 1),
+        number: at.number.wrapping_add(1),
         returned,
         going: done.err == 0,
         open: at.open,
@@ -49,7 +48,8 @@ fn end_line(
 }
 
 // After a line that can't be taken, what was read with it is passed over.
-fn take_byte(
+fn take_byte<E: Write>(
+    err: &mut E,
     stack: &mut [u8],
     line: &mut [u8],
     recording: &mut [u8],
@@ -61,20 +61,17 @@ fn take_byte(
     }
     let taken = lines::take(line, at.held, at.returned, byte);
     if taken.ended {
-        return end_line(stack, line, recording, at, taken.returned);
+        return end_line(err, stack, line, recording, at, taken.returned);
     }
     Place {
-        depth: at.depth,
-        end: at.end,
         held: taken.held,
-        number: at.number,
         returned: taken.returned,
-        going: at.going,
-        open: at.open,
+        ..at
     }
 }
 
-fn take_bytes(
+fn take_bytes<E: Write>(
+    err: &mut E,
     stack: &mut [u8],
     line: &mut [u8],
     recording: &mut [u8],
@@ -82,76 +79,79 @@ fn take_bytes(
     bytes: &[u8],
 ) -> Place {
     let mut now_at = at;
-    let mut i = 0;
-    while i < bytes.len() {
-        now_at = take_byte(stack, line, recording, now_at, bytes[i]);
-        i += 1;
+    for byte in bytes {
+        now_at = take_byte(err, stack, line, recording, now_at, *byte);
     }
     now_at
 }
 
 // One read. What is held of a line when the input can't be read is no line.
-fn read_some(stack: &mut [u8], line: &mut [u8], recording: &mut [u8], at: Place) -> Place {
-    let mut bytes = io::buffer();
-    let got = libc::read(STDIN_FILENO, &mut bytes);
-    if got < 0 {
-        io::write_all(
-            STDERR_FILENO,
-            b"record: standard input cannot be read; no recording was written\n",
-        );
-    }
-    if got <= 0 {
-        return Place {
-            depth: at.depth,
-            end: at.end,
-            held: at.held,
-            number: at.number,
-            returned: at.returned,
-            going: got == 0,
+fn read_some<R: Read, E: Write>(
+    input: &mut R,
+    err: &mut E,
+    stack: &mut [u8],
+    line: &mut [u8],
+    recording: &mut [u8],
+    at: Place,
+) -> Place {
+    let mut bytes = [0u8; 4096];
+    match input.read(&mut bytes) {
+        Ok(0) => Place {
+            going: true,
             open: false,
-        };
-    }
-    let n = io::count(got, &bytes);
-    take_bytes(stack, line, recording, at, &bytes[..n])
-}
-
-// A proved loop has to end, and nothing says that the input does: it counts down from a number that no run uses up.
-fn turns_left(turns: u64, at: Place) -> u64
-    requires { 0 < turns }
-    ensures { result < turns }
-{
-    if at.going {
-        if at.open {
-            return turns - 1;
+            ..at
+        },
+        Ok(n) => take_bytes(err, stack, line, recording, at, &bytes[..n]),
+        Err(_) => {
+            let _ = err.write_all(
+                b"record: standard input cannot be read; no recording was written\n",
+            );
+            Place {
+                going: false,
+                open: false,
+                ..at
+            }
         }
     }
-    0
 }
 
 // A last line needs no line feed.
-fn last_line(stack: &mut [u8], line: &[u8], recording: &mut [u8], at: Place) -> Place {
+fn last_line<E: Write>(
+    err: &mut E,
+    stack: &mut [u8],
+    line: &[u8],
+    recording: &mut [u8],
+    at: Place,
+) -> Place {
     if 0 < at.held {
         if at.going {
-            return end_line(stack, line, recording, at, false);
+            return end_line(err, stack, line, recording, at, false);
         }
     }
     at
 }
 
 // The end of the input: every line was taken, or nothing is written.
-fn finish(recording: &[u8], at: Place) {
+fn finish<W: Write, E: Write>(out: &mut W, err: &mut E, recording: &[u8], at: Place) {
     if at.going {
-        if io::write_all(STDOUT_FILENO, text::first(recording, at.end)) {
+        if out.write_all(text::first(recording, at.end)).is_ok() {
             return;
         }
-        io::write_all(
-            STDERR_FILENO,
+        let _ = err.write_all(
             b"record: standard output cannot be written; the recording is not whole\n",
         );
     }
 }
 
-pub fn follow(stack: &mut [u8], line: &mut [u8], recording: &mut [u8]) {
+// A proved loop has to end, and nothing says that the input does: it counts up to a number that no run reaches.
+pub fn follow<R: Read, W: Write, E: Write>(
+    input: &mut R,
+    out: &mut W,
+    err: &mut E,
+    stack: &mut [u8],
+    line: &mut [u8],
+    recording: &mut [u8],
+) {
     let mut at = Place {
         depth: 0,
         end: 0,
@@ -161,11 +161,12 @@ pub fn follow(stack: &mut [u8], line: &mut [u8], recording: &mut [u8]) {
         going: true,
         open: true,
     };
-    let mut turns = u64::MAX;
-    while turns > 0 {
-        at = read_some(stack, line, recording, at);
-        turns = turns_left(turns, at);
+    for _ in 0..u64::MAX {
+        if !at.open || !at.going {
+            break;
+        }
+        at = read_some(input, err, stack, line, recording, at);
     }
-    let last = last_line(stack, line, recording, at);
-    finish(recording, last);
+    let last = last_line(err, stack, line, recording, at);
+    finish(out, err, recording, last);
 }

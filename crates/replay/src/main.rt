@@ -11,26 +11,25 @@
 //     refused 8         it is no recording: over 64,000 bytes, a part of a record at its end, or a byte other than zero among the last seven
 //
 // A step that is refused, and recorded so, agrees. The status is 0, 1 or 2 by that line.
-use libc::{STDERR_FILENO, STDOUT_FILENO};
+#![tactic(auto)]
+use std::io::Write;
 
-fn main() {
+fn main(rt: HostRuntime) {
     let mut stack = [0u8; 16000];
     // One byte more than a recording may have tells a longer one.
     let mut recording = [0u8; 64001];
     let mut out = [0u8; 64];
-    let taken = standard::take_all(&mut recording);
+    let taken = standard::take_all(&mut rt.stdin(), &mut recording);
     if !taken.read {
-        io::write_all(
-            STDERR_FILENO,
+        let _ = rt.stderr().write_all(
             b"replay: standard input cannot be read; nothing was replayed\n",
         );
         return;
     }
     let n = telling::print_replay(&mut stack, text::first(&recording, taken.held), &mut out);
-    if !io::write_all(STDOUT_FILENO, text::first(&out, n)) {
-        io::write_all(
-            STDERR_FILENO,
-            b"replay: standard output cannot be written\n",
-        );
+    if rt.stdout().write_all(text::first(&out, n)).is_err() {
+        let _ = rt
+            .stderr()
+            .write_all(b"replay: standard output cannot be written\n");
     }
 }

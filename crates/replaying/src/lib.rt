@@ -1,4 +1,6 @@
 // The replay of a recorded count: each record's step is done, and what it gave is held to the record.
+#![tactic(auto)]
+
 mod answer;
 mod replaying;
 mod steps;

@@ -11,26 +11,23 @@
 //
 // It ends at the first record that differs, with what this machine gives instead; the last line, and the status, are those of trenailer replay, whose
 // --help says what a recording is.
-use libc::{STDERR_FILENO, STDOUT_FILENO};
+#![tactic(auto)]
+use std::io::Write;
 
-fn main() {
+fn main(rt: HostRuntime) {
     let mut stack = [0u8; 16000];
     // One byte more than a recording may have tells a longer one.
     let mut recording = [0u8; 64001];
     // Room for 4,000 records and the last two lines.
     let mut out = [0u8; 460000];
-    let taken = standard::take_all(&mut recording);
+    let taken = standard::take_all(&mut rt.stdin(), &mut recording);
     if !taken.read {
-        io::write_all(
-            STDERR_FILENO,
-            b"show: standard input cannot be read; nothing was shown\n",
-        );
+        let _ = rt.stderr().write_all(b"show: standard input cannot be read; nothing was shown\n");
         return;
     }
     let n = printing::print_show(&mut stack, text::first(&recording, taken.held), &mut out);
-    if !io::write_all(STDOUT_FILENO, text::first(&out, n)) {
-        io::write_all(
-            STDERR_FILENO,
+    if rt.stdout().write_all(text::first(&out, n)).is_err() {
+        let _ = rt.stderr().write_all(
             b"show: standard output cannot be written; not all was shown\n",
         );
     }

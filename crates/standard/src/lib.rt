@@ -1,5 +1,7 @@
 // Standard input, for programs that take all of it before they begin.
-use libc::STDIN_FILENO;
+#![tactic(auto)]
+
+use std::io::Read;
 
 // How many bytes were taken, and whether the input could be read.
 #[derive(Clone, Copy)]
@@ -9,22 +11,18 @@ pub struct Taken {
 }
 
 // As much as the buffer holds: what comes after that is not read. Each turn takes a byte at least, so as many turns as the buffer has bytes are enough.
-pub fn take_all(buffer: &mut [u8]) -> Taken {
+pub fn take_all<R: Read>(input: &mut R, buffer: &mut [u8]) -> Taken {
     let len = buffer.len();
     let mut held = 0;
     let mut turns = len;
     while 0 < turns {
         turns -= 1;
-        let mut bytes = io::buffer();
-        let got = libc::read(STDIN_FILENO, &mut bytes);
-        let n = io::count(got, &bytes);
-        if n == 0 {
-            return Taken {
-                held,
-                read: 0 <= got,
-            };
+        let mut bytes = [0u8; 4096];
+        match input.read(&mut bytes) {
+            Ok(0) => return Taken { held, read: true },
+            Ok(n) => held = text::put_all(buffer, held, &bytes[..n]),
+            Err(_) => return Taken { held, read: false },
         }
-        held = text::put_all(buffer, held, &bytes[..n]);
         if held == len {
             break;
         }

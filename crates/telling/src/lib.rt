@@ -1,4 +1,6 @@
 // How a replay ended, as `replay` prints it and `show` ends.
+#![tactic(auto)]
+
 mod answers;
 mod verdicts;
 

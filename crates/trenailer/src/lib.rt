@@ -1,5 +1,6 @@
-// The calculator for programs in other languages: include/trenailer.h declares these nine functions. A slice passes as a pointer and a
-// length, and what a function answers beside its result goes out through a pointer.
+// The calculator for programs in other languages: include/trenailer.h declares these nine functions, and the crate trenailer_c exports
+// them. A slice passes as a pointer and a length, and what a function answers beside its result goes out through a pointer.
+#![tactic(auto)]
 ghost use Rattle.std.specs.Prelude.{◌≡◌};
 ghost use Rattle.edition.specs.Edition.{unnamed};
 ghost use Rattle.number.specs.LeadingZeros.{LeadingZeros};
@@ -21,15 +22,13 @@ const MENDED: u8 = 1;
 // Neither of them.
 const UNKNOWN_EDITION: u8 = 12;
 
-#[unsafe(no_mangle)]
-pub extern "C" fn trenailer_operate(stack: &mut [u8], depth: &mut usize, literal: u8) -> u8
+pub fn trenailer_operate(stack: &mut [u8], depth: &mut usize, literal: u8) -> u8
     ensures { operate_of unnamed stack.old depth.old literal ≡ (outcome result depth.new, stack.new) }
 {
     calculator::operate_in_place(stack, depth, literal)
 }
 
-#[unsafe(no_mangle)]
-pub extern "C" fn trenailer_operate_in(
+pub fn trenailer_operate_in(
     edition: u8,
     stack: &mut [u8],
     depth: &mut usize,
@@ -44,8 +43,7 @@ pub extern "C" fn trenailer_operate_in(
     }
 }
 
-#[unsafe(no_mangle)]
-pub extern "C" fn trenailer_push(stack: &mut [u8], depth: &mut usize, number: &[u8]) -> u8
+pub fn trenailer_push(stack: &mut [u8], depth: &mut usize, number: &[u8]) -> u8
     ensures { push_of stack.old depth.old number.now ≡ (outcome result depth.new, stack.new) }
 {
     let done = calculator::push(stack, *depth, number);
@@ -53,8 +51,7 @@ pub extern "C" fn trenailer_push(stack: &mut [u8], depth: &mut usize, number: &[
     done.report
 }
 
-#[unsafe(no_mangle)]
-pub extern "C" fn trenailer_run(
+pub fn trenailer_run(
     stack: &mut [u8],
     depth: &mut usize,
     literals: &[u8],
@@ -86,8 +83,7 @@ fn run_there(
     ran.report
 }
 
-#[unsafe(no_mangle)]
-pub extern "C" fn trenailer_run_in(
+pub fn trenailer_run_in(
     edition: u8,
     stack: &mut [u8],
     depth: &mut usize,
@@ -108,8 +104,7 @@ pub extern "C" fn trenailer_run_in(
 }
 
 // The view is handed over as its place in the stack.
-#[unsafe(no_mangle)]
-pub extern "C" fn trenailer_view(stack: &[u8], depth: usize, start: &mut usize) -> usize
+pub fn trenailer_view(stack: &[u8], depth: usize, start: &mut usize) -> usize
     ensures { Part stack.now depth start.old result start.new }
 {
     let seen = calculator::view(stack, depth);
@@ -121,8 +116,7 @@ pub extern "C" fn trenailer_view(stack: &[u8], depth: usize, start: &mut usize) 
 }
 
 // 0 refused, 1 blank, 2 odd, 3 a value. What a case does not name stays as it was.
-#[unsafe(no_mangle)]
-pub extern "C" fn trenailer_cell(
+pub fn trenailer_cell(
     report: u8,
     stack: &[u8],
     depth: usize,
@@ -147,8 +141,7 @@ pub extern "C" fn trenailer_cell(
     }
 }
 
-#[unsafe(no_mangle)]
-pub extern "C" fn trenailer_leading_zeros(t: u32) -> u8
+pub fn trenailer_leading_zeros(t: u32) -> u8
     ensures { LeadingZeros t result }
 {
     calculator::leading_zeros(t) as u8
@@ -165,8 +158,7 @@ fn field_number(field: Field) -> u8
 }
 
 // 0, or the number that refuses the recording.
-#[unsafe(no_mangle)]
-pub extern "C" fn trenailer_replay(
+pub fn trenailer_replay(
     stack: &mut [u8],
     recording: &[u8],
     count: &mut usize,

@@ -1,6 +1,6 @@
 // The answer to a case, as text. Each way to write one says whether it was written.
 use calculator::Cell;
-use libc::{STDERR_FILENO, STDOUT_FILENO};
+use std::io::Write;
 
 // A number in decimal, and the byte that ends it.
 fn put_number(out: &mut [u8], at: usize, n: u64, end: u8) -> usize {
@@ -64,40 +64,46 @@ fn put_seen(out: &mut [u8], at: usize, report: u8, stack: &[u8], depth: usize) -
 }
 
 // Whether an answer could be written; if not, standard error says so.
-fn write(bytes: &[u8]) -> bool {
-    let written = io::write_all(STDOUT_FILENO, bytes);
+fn write<W: Write, E: Write>(out: &mut W, err: &mut E, bytes: &[u8]) -> bool {
+    let written = out.write_all(bytes).is_ok();
     if !written {
-        io::write_all(
-            STDERR_FILENO,
-            b"vectors: standard output cannot be written\n",
-        );
+        let _ = err.write_all(b"vectors: standard output cannot be written\n");
     }
     written
 }
 
 // A stack of 17,000 bytes and the rest of its answer fit the buffer.
-pub(crate) fn write_answer(report: u8, position: usize, stack: &[u8], depth: usize) -> bool {
-    let mut out = io::large_buffer();
-    let next = put_outcome(&mut out, 0, report, position, depth);
-    let end = put_seen(&mut out, next, report, stack, depth);
-    write(text::first(&out, end))
+pub(crate) fn write_answer<W: Write, E: Write>(
+    out: &mut W,
+    err: &mut E,
+    report: u8,
+    position: usize,
+    stack: &[u8],
+    depth: usize,
+) -> bool {
+    let mut answer = [0u8; 65536];
+    let next = put_outcome(&mut answer, 0, report, position, depth);
+    let end = put_seen(&mut answer, next, report, stack, depth);
+    write(out, err, text::first(&answer, end))
 }
 
 // The field that differs comes before the rest.
-pub(crate) fn write_replayed(
+pub(crate) fn write_replayed<W: Write, E: Write>(
+    out: &mut W,
+    err: &mut E,
     field: u8,
     report: u8,
     count: usize,
     stack: &[u8],
     depth: usize,
 ) -> bool {
-    let mut out = io::large_buffer();
-    let first = put_number(&mut out, 0, field as u64, b' ');
-    let next = put_outcome(&mut out, first, report, count, depth);
-    let end = put_seen(&mut out, next, report, stack, depth);
-    write(text::first(&out, end))
+    let mut answer = [0u8; 65536];
+    let first = put_number(&mut answer, 0, field as u64, b' ');
+    let next = put_outcome(&mut answer, first, report, count, depth);
+    let end = put_seen(&mut answer, next, report, stack, depth);
+    write(out, err, text::first(&answer, end))
 }
 
-pub(crate) fn write_malformed() -> bool {
-    write(b"?\n")
+pub(crate) fn write_malformed<W: Write, E: Write>(out: &mut W, err: &mut E) -> bool {
+    write(out, err, b"?\n")
 }

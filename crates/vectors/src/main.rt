@@ -11,19 +11,24 @@
 // and a report, `B0` blank, `O0` odd, or `V` and a double's bits as a number.
 //
 // Where an answer cannot be written, or the input not read, standard error says so and nothing more is done.
+#![tactic(auto)]
 mod answers;
 mod cases;
 mod lines;
 mod reading;
 
-// A proved loop has to end, and nothing says that the input does: it counts down from a number that no run uses up.
-fn main() {
-    let mut line = io::large_buffer();
+// A proved loop has to end, and nothing says that the input does: it counts up to a number that no run reaches.
+fn main(rt: HostRuntime) {
+    let mut line = [0u8; 65536];
     let mut held = 0;
-    let mut turns = u64::MAX;
-    while turns > 0 {
-        turns -= 1;
-        held = lines::take_some(&mut line, held);
+    for _ in 0..u64::MAX {
+        held = lines::take_some(
+            &mut rt.stdin(),
+            &mut rt.stdout(),
+            &mut rt.stderr(),
+            &mut line,
+            held,
+        );
         if held == lines::STOPPED {
             break;
         }
