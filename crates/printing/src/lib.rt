@@ -1,4 +1,6 @@
 // What `show` prints of a recording.
+#![tactic(auto)]
+
 mod names;
 mod pages;
 mod records;

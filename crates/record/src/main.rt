@@ -12,6 +12,7 @@
 //
 // It is written when all of the sheet was read. At a line that can't be taken nothing is written, and standard error says what is wrong with it.
 #![tactic(auto)]
+
 mod following;
 
 fn main(rt: HostRuntime) {

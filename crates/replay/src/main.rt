@@ -12,6 +12,7 @@
 //
 // A step that is refused, and recorded so, agrees. The status is 0, 1 or 2 by that line.
 #![tactic(auto)]
+
 use std::io::Write;
 
 fn main(rt: HostRuntime) {

@@ -1,6 +1,7 @@
 // The C interface's exports: include/trenailer.h declares these nine functions. Each is the one of its name in the crate trenailer, and
 // promises the same. A slice passes as a pointer and a length, and what a function answers beside its result goes out through a pointer.
 #![tactic(auto)]
+
 ghost use Rattle.std.specs.Prelude.{◌≡◌};
 ghost use Rattle.edition.specs.Edition.{unnamed};
 ghost use Rattle.number.specs.LeadingZeros.{LeadingZeros};

@@ -12,6 +12,7 @@
 //
 // Where an answer cannot be written, or the input not read, standard error says so and nothing more is done.
 #![tactic(auto)]
+
 mod answers;
 mod cases;
 mod lines;

@@ -1,5 +1,5 @@
 -- `hex_at` is safe and ends: the measure is what is left of the line.
-use Rattle.std.proofs.Common.{length, ◌×◌, ◌≡◌, ◌-◌, ◌≤◌}
+use Rattle.std.proofs.Common.{length, ◌≡◌, ◌-◌, ◌≤◌}
 use Rattle.vectors.proofs.reading.hex_at.Given as goal
 
 abbrev pub invariant-loop-i : goal.invariant-loop-i

@@ -1,5 +1,5 @@
 -- `repeat` is safe and ends: the measure is what is left of the buffer.
-use Rattle.std.proofs.Common.{length, ◌×◌, ◌≡◌, ◌-◌, ◌≤◌}
+use Rattle.std.proofs.Common.{length, ◌≡◌, ◌-◌, ◌≤◌}
 use Rattle.vectors.proofs.reading.repeat.Given as goal
 
 abbrev pub invariant-loop-i : goal.invariant-loop-i
