@@ -5,12 +5,12 @@ use Rattle.edition.specs.declared.Edition.{Edition}
 use Rattle.edition.specs.declared.Edition.TheVariants.{Shipped}
 use Rattle.number.specs.declared.Number.{Number}
 use Rattle.number.specs.Number.{number}
-use Rattle.number.specs.NegateLaws.{negate_full}
+use Rattle.number.proofs.NegateLaws.{negate_full}
 use Rattle.ending.specs.declared.answer.Answer.{Answer}
 use Rattle.addition.specs.declared.short.Short.{Short}
 use Rattle.addition.specs.declared.short.Short.TheVariants.{Beyond}
 use Rattle.addition.specs.Addition.{full_route, sum_of, difference_of, second_of}
-use Rattle.addition.specs.ShortRouteLaws.{first_full, second_full}
+use Rattle.addition.proofs.ShortRouteLaws.{first_full, second_full}
 use Rattle.addition.specs.SignBytes.{Says}
 use Rattle.literals.specs.Literals.{two, row, row_of}
 

@@ -8,14 +8,14 @@ use Rattle.number.specs.Number.{number, zeros, sign, mantissa, malformed, short_
 use Rattle.number.specs.NumberLaws.{Bytes, magnitude_lt}
 use Rattle.number.specs.Value.{signed}
 use Rattle.number.specs.Restack.{restacked}
-use Rattle.number.specs.RestackLaws.{restack_full, restack_some, restack_zero}
-use Rattle.number.specs.RestackValue.{full_of_short_lem, restacked_bytes}
-use Rattle.number.specs.RestackNegated.{negated_none, negated_some}
+use Rattle.number.proofs.RestackLaws.{restack_full, restack_some, restack_zero}
+use Rattle.number.proofs.RestackValueLaws.{full_of_short_lem, restacked_bytes}
+use Rattle.number.proofs.RestackNegated.{negated_none, negated_some}
 use Rattle.number.specs.Negate.{negated}
-use Rattle.number.specs.NegateLaws.{negate_full}
+use Rattle.number.proofs.NegateLaws.{negate_full}
 use Rattle.addition.specs.Addition.{signed_mantissa, signed_sum, aligned_sum, full_route, second_of}
 use Rattle.addition.specs.SignedLaws.{nat_abs_signed, held, low_bits}
-use Rattle.addition.specs.MantissaLaws.{zero_at_1}
+use Rattle.addition.proofs.MantissaLaws.{zero_at_1}
 use Rattle.adding.specs.declared.term.Summand.{Summand}
 use Rattle.adding.specs.Sum.{flips}
 

@@ -3,9 +3,6 @@ pub mod SignedLaws
 pub mod AdditionLaws
 pub mod ShortRouteLaws
 pub mod TooBig
-pub mod MantissaLaws
-pub mod ShortExact
 pub mod SecondHalves
 pub mod SignBytes
 pub mod MendedLaws
-pub mod NotOdd

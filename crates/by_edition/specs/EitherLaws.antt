@@ -17,7 +17,7 @@ use Rattle.slots.specs.Reach.{lacking, refusal_of, number_at, put_at}
 use Rattle.literals.specs.Literals.{one, two, row, row_of}
 use Rattle.literals.specs.Reports.{malformed_in}
 use Rattle.literals.specs.Operate.{outcome, operate_of}
-use Rattle.literals.specs.WayLaws.{one_lacking, one_malformed, one_done, two_lacking, two_malformed, two_too_big, two_done}
+use Rattle.literals.proofs.WayLaws.{one_lacking, one_malformed, one_done, two_lacking, two_malformed, two_too_big, two_done}
 use Rattle.odd.specs.Mending.{odd_in, odd_pair, mended_top, odd_there, mended_put}
 
 -- Of operands that are not odd, both editions refuse a literal with one report, or both store a number with k above it: the shipped one n, the mended one m.

@@ -17,7 +17,7 @@ use Rattle.slots.specs.ReachLaws.{none_at, number_bytes}
 use Rattle.literals.specs.Literals.{row_of}
 use Rattle.literals.specs.Reports.{malformed_in}
 use Rattle.literals.specs.Operate.{outcome, operate_of}
-use Rattle.literals.specs.WayLaws.{one_done, one_kept}
+use Rattle.literals.proofs.WayLaws.{one_done, one_kept}
 
 -- what the shipped edition takes for -65,536, where the edition has no such test
 abbrev pub taken_in : Edition → Number → Bool

@@ -12,7 +12,7 @@ use Rattle.number.specs.NumberLaws.{places}
 use Rattle.number.specs.FormLaws.{form_bytes}
 use Rattle.number.specs.Value.{short_value}
 use Rattle.number.specs.Restack.{full_of_short, restacked}
-use Rattle.number.specs.RestackLaws.{restack_zero, restack_some}
+use Rattle.number.proofs.RestackLaws.{restack_zero, restack_some}
 use Rattle.slots.specs.Slots.{number_in}
 
 -- the first four bytes are the same

@@ -9,7 +9,7 @@ use Rattle.display.specs.declared.shown.Cell.{Cell}
 use Rattle.display.specs.declared.shown.Cell.TheVariants.{Refused, Blank, Odd, Value}
 use Rattle.slots.specs.Reports.{When, first, push_rows, over_limits, push_report}
 use Rattle.slots.specs.Push.{settled, push_of}
-use Rattle.slots.specs.PushLaws.{settled_refused}
+use Rattle.slots.proofs.PushLaws.{settled_refused}
 use Rattle.literals.specs.Reports.{rows, too_many_literals, report_of}
 use Rattle.literals.specs.Operate.{operate_of}
 use Rattle.literals.specs.OperateLaws.{operate_kept}

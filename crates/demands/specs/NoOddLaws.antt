@@ -5,10 +5,10 @@ use Rattle.std.proofs.lemmas.Bool.{eqb-false}
 use Rattle.edition.specs.declared.Edition.TheVariants.{Mended}
 use Rattle.number.specs.declared.Number.{Number}
 use Rattle.number.specs.Number.{malformed, odd}
-use Rattle.number.specs.NotOdd.{negated_not_odd, restacked_not_odd}
+use Rattle.number.proofs.NotOdd.{negated_not_odd, restacked_not_odd}
 use Rattle.ending.specs.NotOdd.{NotOdd}
-use Rattle.addition.specs.NotOdd.{sum_not_odd, difference_not_odd}
-use Rattle.division.specs.NotOdd.{quotient_not_odd}
+use Rattle.addition.proofs.NotOdd.{sum_not_odd, difference_not_odd}
+use Rattle.division.proofs.NotOdd.{quotient_not_odd}
 use Rattle.multiplication.specs.NotOdd.{product_not_odd}
 use Rattle.truncation.specs.NotOdd.{truncated_not_odd, int_not_odd}
 use Rattle.slots.specs.Slots.{slot, number_in}

@@ -17,8 +17,8 @@ use Rattle.literals.specs.Reports.{report_of}
 use Rattle.literals.specs.Operate.{operate_of}
 use Rattle.recording.specs.Recording.{rest_in, zeros}
 use Rattle.replaying.specs.Replay.{step_of, top_of}
-use Rattle.replaying.specs.ReplayLaws.{step_push, step_literal}
-use Rattle.replaying.specs.TopLaws.{top_long}
+use Rattle.replaying.proofs.ReplayLaws.{step_push, step_literal}
+use Rattle.replaying.proofs.TopLaws.{top_long}
 use Rattle.replaying.specs.Made.{Step, push, literal, done_by, record_of}
 use Rattle.demands.specs.Accepted.{pushable, fits}
 use Rattle.demands.specs.Demand1.{refused_operation}

@@ -6,7 +6,7 @@ use Rattle.recording.specs.Recording.{not_a_recording}
 use Rattle.replaying.specs.declared.answer.Replayed.{Replayed}
 use Rattle.replaying.specs.declared.answer.Verdict.TheVariants.{Refused}
 use Rattle.replaying.specs.Replay.{refused, replay_of}
-use Rattle.replaying.specs.ReplayLaws.{replay_over, replay_refused}
+use Rattle.replaying.proofs.ReplayLaws.{replay_over, replay_refused}
 use Rattle.demands.specs.Replays.{never_refused}
 use Rattle.demands.specs.Unfit.{Unfit, not_a_recording_lem}
 

@@ -14,7 +14,7 @@ use Rattle.recording.specs.RecordingLaws.{same_refl, same_true, same_by}
 use Rattle.replaying.specs.declared.answer.Field.{Field}
 use Rattle.replaying.specs.declared.answer.Field.TheVariants.{Report, Depth, Top}
 use Rattle.replaying.specs.Replay.{step_of, top_of, top_differs, differs, go_on}
-use Rattle.replaying.specs.ReplayLaws.{step_push, step_literal}
+use Rattle.replaying.proofs.ReplayLaws.{step_push, step_literal}
 use Rattle.demands.specs.Demand1.{operation_report, push_report_lem, refused_operation, refused_push}
 
 -- the record x agrees with what its step gives on the stack s at depth d: in each of its fields, the top not asked of a push

@@ -11,10 +11,11 @@ use Rattle.number.specs.Negate.{negated}
 use Rattle.ending.specs.declared.answer.Answer.{Answer}
 use Rattle.ending.specs.declared.answer.Answer.TheVariants.{Done, TooBig}
 use Rattle.addition.specs.Addition.{sum_of, difference_of}
-use Rattle.addition.specs.TooBig.{SumTooBig, sum_too_big, difference_too_big}
+use Rattle.addition.specs.TooBig.{SumTooBig}
+use Rattle.addition.proofs.TooBigLaws.{sum_too_big, difference_too_big}
 use Rattle.division.specs.Division.{quotient_of}
 use Rattle.division.specs.Demand3.{QuotientTooBig}
-use Rattle.division.specs.Demand3Laws.{quotient_too_big}
+use Rattle.division.proofs.Demand3Laws.{quotient_too_big}
 use Rattle.multiplication.specs.Multiplication.{product_of}
 use Rattle.multiplication.specs.Rounding.{ProductTooBig}
 use Rattle.multiplication.specs.RoundingLaws.{product_too_big}

@@ -4,5 +4,3 @@ pub mod Division
 pub mod Operand
 pub mod DivisionLaws
 pub mod Demand3
-pub mod Demand3Laws
-pub mod NotOdd

@@ -4,7 +4,7 @@ use Rattle.std.proofs.Common.{arith}
 use Rattle.number.specs.declared.Number.{Number}
 use Rattle.number.specs.NumberLaws.{Bytes}
 use Rattle.number.specs.Restack.{restacked, CountsAsZero}
-use Rattle.number.specs.RestackValue.{restacked_bytes, restacked_zero}
+use Rattle.number.proofs.RestackValueLaws.{restacked_bytes, restacked_zero}
 
 pub record IsFull (x : Number) : Type 0 where
   pub bytes : Bytes x

@@ -13,7 +13,7 @@ use Rattle.words.specs.Blanks.{told_of, trimmed}
 use Rattle.sheet.specs.Line.{line_of}
 use Rattle.wording.specs.Wording.{place_of}
 use Rattle.wording.specs.Room.{fault_length, place_length}
-use Rattle.replaying.specs.TopLaws.{top_long}
+use Rattle.replaying.proofs.TopLaws.{top_long}
 use Rattle.replaying.specs.Made.{Step, push, literal, done_by, record_of}
 use Rattle.reasons.specs.declared.why.Why.{Why}
 use Rattle.reasons.specs.declared.why.Why.TheVariants.{None, Unread, Mended, Zero, Full}

@@ -3,5 +3,3 @@ pub mod Reports
 pub mod ReportLaws
 pub mod Operate
 pub mod OperateLaws
-pub mod WayLaws
-pub mod MoveLaws

@@ -6,7 +6,7 @@ use Rattle.edition.specs.declared.Edition.{Edition}
 use Rattle.slots.specs.declared.outcome.Outcome.{Outcome}
 use Rattle.slots.specs.Reports.{over_limits}
 use Rattle.slots.specs.Push.{settled}
-use Rattle.slots.specs.PushLaws.{settled_refused}
+use Rattle.slots.proofs.PushLaws.{settled_refused}
 use Rattle.literals.specs.Literals.{unknown, Row, row, row_of, operation_of, takes, leaves}
 use Rattle.literals.specs.Reports.{not_in_table, report_of}
 use Rattle.literals.specs.Operate.{outcome, bytes_after, operate_of}

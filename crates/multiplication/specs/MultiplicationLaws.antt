@@ -8,7 +8,7 @@ use Rattle.number.specs.Number.{zeros, mantissa}
 use Rattle.number.specs.Restack.{restacked}
 use Rattle.ending.specs.declared.answer.Answer.TheVariants.{Done}
 use Rattle.ending.specs.Ending.{loose, closed}
-use Rattle.ending.specs.EndingLaws.{closed_any, closed_low_bits}
+use Rattle.ending.proofs.EndingLaws.{closed_any, closed_low_bits}
 use Rattle.division.specs.Demand3.{nearest}
 use Rattle.division.specs.Operand.{IsFull}
 use Rattle.multiplication.specs.Multiplication.{both_short, short_product, short_stored, sign_of_two, taken, product_mantissa, carried, ended_product, full_product, restacked_product, product_of}

@@ -7,9 +7,9 @@ use Rattle.number.specs.declared.Number.{Number}
 use Rattle.number.specs.Number.{zeros, short_of, odd}
 use Rattle.number.specs.OddLaws.{odd_ended}
 use Rattle.number.specs.Restack.{restacked}
-use Rattle.number.specs.NotOdd.{short_not_odd}
+use Rattle.number.proofs.NotOdd.{short_not_odd}
 use Rattle.ending.specs.declared.answer.Answer.TheVariants.{Done}
-use Rattle.ending.specs.Ends.{closed_zero_or_full}
+use Rattle.ending.proofs.EndsLaws.{closed_zero_or_full}
 use Rattle.ending.specs.NotOdd.{NotOdd, ended_not_odd}
 use Rattle.multiplication.specs.Multiplication.{both_short, stays_short, short_product, short_stored, sign_of_two, full_product, restacked_product, product_of}
 

@@ -8,8 +8,8 @@ use Rattle.number.specs.Number.{zeros, sign, mantissa, short_magnitude}
 use Rattle.number.specs.NumberLaws.{Bytes, magnitude_lt}
 use Rattle.number.specs.LeadingZeros.{top_set, places_are, zeros_of}
 use Rattle.number.specs.Restack.{full_of_short, restacked}
-use Rattle.number.specs.RestackLaws.{restack_full, restack_some, restack_zero}
-use Rattle.number.specs.RestackValue.{full_of_short_lem}
+use Rattle.number.proofs.RestackLaws.{restack_full, restack_some, restack_zero}
+use Rattle.number.proofs.RestackValueLaws.{full_of_short_lem}
 use Rattle.ending.specs.declared.answer.Answer.{Answer}
 use Rattle.ending.specs.declared.answer.Answer.TheVariants.{Done}
 use Rattle.division.specs.Demand3.{nearest}

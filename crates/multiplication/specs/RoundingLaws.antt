@@ -6,13 +6,13 @@ use Rattle.number.specs.declared.Number.{Number}
 use Rattle.number.specs.Number.{mantissa, full_of, short_magnitude, short_of}
 use Rattle.number.specs.NumberLaws.{Bytes, sign_full}
 use Rattle.number.specs.Restack.{full_of_short, restacked, CountsAsZero}
-use Rattle.number.specs.RestackLaws.{restack_full, restack_some, restack_zero}
-use Rattle.number.specs.RestackValue.{full_of_short_lem, restacked_sign}
-use Rattle.number.specs.RestackNegated.{short_parts}
+use Rattle.number.proofs.RestackLaws.{restack_full, restack_some, restack_zero}
+use Rattle.number.proofs.RestackValueLaws.{full_of_short_lem, restacked_sign}
+use Rattle.number.proofs.RestackNegated.{short_parts}
 use Rattle.ending.specs.declared.answer.Answer.{Answer}
 use Rattle.ending.specs.declared.answer.Answer.TheVariants.{Done, TooBig}
 use Rattle.ending.specs.Ending.{loose, closed}
-use Rattle.ending.specs.EndingLaws.{closed_too_big, closed_too_big_only, closed_stored}
+use Rattle.ending.proofs.EndingLaws.{closed_too_big, closed_too_big_only, closed_stored}
 use Rattle.division.specs.Demand3.{nearest}
 use Rattle.division.specs.Operand.{IsFull, restacked_full}
 use Rattle.multiplication.specs.Multiplication.{both_short, short_product, stays_short, short_stored, sign_of_two, taken, product_mantissa, restacked_product, product_of}

@@ -7,11 +7,11 @@ use Rattle.number.specs.Number.{number, zeros, sign, malformed, mantissa, short_
 use Rattle.number.specs.NumberLaws.{magnitude_lt}
 use Rattle.number.specs.LeadingZeros.{top_set, places_are, zeros_of}
 use Rattle.number.specs.Restack.{full_of_short, restacked}
-use Rattle.number.specs.RestackLaws.{restack_some}
-use Rattle.number.specs.RestackValue.{full_of_short_lem}
+use Rattle.number.proofs.RestackLaws.{restack_some}
+use Rattle.number.proofs.RestackValueLaws.{full_of_short_lem}
 use Rattle.ending.specs.declared.answer.Answer.TheVariants.{Done}
 use Rattle.ending.specs.Ending.{loose, closed}
-use Rattle.ending.specs.EndingLaws.{closed_stored}
+use Rattle.ending.proofs.EndingLaws.{closed_stored}
 use Rattle.multiplication.specs.declared.product.Product.{Product}
 use Rattle.multiplication.specs.Multiplication.{short_product, sign_of_two, taken, restacked_product, product_of, ended_product}
 use Rattle.multiplication.specs.Places.{rounded_at, product_at, at_some, at_scaled, fills, at_short}

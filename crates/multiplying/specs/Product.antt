@@ -12,14 +12,14 @@ use Rattle.number.specs.declared.operand.Magnitude.{Magnitude}
 use Rattle.number.specs.Operand.{Measures}
 use Rattle.slots.specs.Reach.{lacking, number_at}
 use Rattle.multiplication.specs.Multiplication.{both_short, product_of}
-use Rattle.division.specs.DivisionLaws.{signs_differ}
+use Rattle.division.proofs.DivisionLaws.{signs_differ}
 use Rattle.multiplication.specs.MultiplicationLaws.{both_zero}
 use Rattle.multiplication.specs.Places.{product_at, full_by_full, full_by_short}
 use Rattle.multiplication.specs.Commutes.{product_commutes}
 use Rattle.multiplying.specs.declared.product.Factors.{Factors}
 use Rattle.literals.specs.Literals.{two, row, row_of}
 use Rattle.literals.specs.Operate.{outcome, operate_of}
-use Rattle.literals.specs.WayLaws.{two_malformed}
+use Rattle.literals.proofs.WayLaws.{two_malformed}
 
 pub product_line : row_of 4 ≡ row 4 (two (λ ed. product_of)) 2 1
 unfolding row_of

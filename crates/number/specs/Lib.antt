@@ -6,10 +6,6 @@ pub mod Value
 pub mod ValueLaws
 pub mod LeadingZeros
 pub mod Restack
-pub mod RestackLaws
 pub mod RestackValue
 pub mod Negate
-pub mod NegateLaws
 pub mod Operand
-pub mod RestackNegated
-pub mod NotOdd

@@ -12,7 +12,7 @@ use Rattle.slots.specs.ReachLaws.{has}
 use Rattle.literals.specs.Literals.{two, row, row_of}
 use Rattle.literals.specs.Reports.{malformed_in}
 use Rattle.literals.specs.Operate.{outcome, operate_of}
-use Rattle.literals.specs.WayLaws.{two_too_big, two_done}
+use Rattle.literals.proofs.WayLaws.{two_too_big, two_done}
 
 -- At any depth, with so many numbers taken and left: the depth is a machine word, and may wrap.
 unfoldable pub stored_at : List ℕ → ℕ → ℕ → Answer → ℕ → ℕ → ℕ × ℕ × List ℕ

@@ -14,7 +14,8 @@ use Rattle.recording.specs.Recording.{literal_in, report_in, depth_in, first, la
 use Rattle.replaying.specs.declared.answer.Verdict.{Verdict}
 use Rattle.replaying.specs.declared.answer.Verdict.TheVariants.{Agree, Differ, Refused}
 use Rattle.replaying.specs.Replay.{is_push, top_differs, replay_of}
-use Rattle.replaying.specs.Bounds.{spoken, spoken_most}
+use Rattle.replaying.specs.Bounds.{spoken}
+use Rattle.replaying.proofs.BoundsLaws.{spoken_most}
 use Rattle.telling.specs.Verdict.{verdict_line}
 use Rattle.telling.specs.Room.{verdict_length}
 use Rattle.printing.specs.Names.{name_of}

@@ -13,16 +13,17 @@ use Rattle.number.specs.Number.{form_of, zeros, bytes, sign, mantissa, full_of, 
 use Rattle.number.specs.NumberLaws.{Bytes, mantissa_full, sign_full, low_halves, over_same, zero_passes, full_fails}
 use Rattle.number.specs.Value.{signed, short_value}
 use Rattle.number.specs.Restack.{full_of_short, restacked}
-use Rattle.number.specs.RestackLaws.{restack_full, restack_some}
+use Rattle.number.proofs.RestackLaws.{restack_full, restack_some}
 use Rattle.number.specs.Negate.{negated}
-use Rattle.number.specs.NegateLaws.{negate_full}
+use Rattle.number.proofs.NegateLaws.{negate_full}
 use Rattle.ending.specs.declared.answer.Answer.TheVariants.{Done}
 use Rattle.ending.specs.Ending.{loose, normal, rounded, ended}
-use Rattle.ending.specs.EndingLaws.{normal_exponent, closed_stored, ended_zero, ended_other, ended_set}
+use Rattle.ending.proofs.EndingLaws.{normal_exponent, closed_stored, ended_zero, ended_other, ended_set}
 use Rattle.addition.specs.Addition.{written_short, ended_sum, aligned_sum, full_route, short_route, sum_of, difference_of}
 use Rattle.addition.specs.SignedLaws.{below}
-use Rattle.addition.specs.AdditionLaws.{magnitude_of, shifted_by, unshifted, none_shifted, aligned_first, sum_ended}
-use Rattle.addition.specs.ShortRouteLaws.{first_full}
+use Rattle.addition.specs.AdditionLaws.{magnitude_of, shifted_by}
+use Rattle.addition.proofs.AdditionLaws.{unshifted, none_shifted, aligned_first, sum_ended}
+use Rattle.addition.proofs.ShortRouteLaws.{first_full}
 use Rattle.truncation.specs.Truncate.{taken65536, cleared, truncated}
 use Rattle.truncation.specs.TruncateLaws.{truncate_full, truncate_below_one, truncate_to_short, truncate_taken, truncate_cleared, truncate_whole, taken_145, taken_not_145}
 use Rattle.truncation.specs.BitLaws.{cleared_le, cleared_word, dropped, dropped_lt}

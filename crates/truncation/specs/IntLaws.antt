@@ -13,13 +13,14 @@ use Rattle.number.specs.declared.form.Form.TheVariants.{Short}
 use Rattle.number.specs.FormLaws.{FormBytes, form_bytes}
 use Rattle.number.specs.NumberLaws.{places, Bytes, low_halves, zero_passes, full_fails, some_fails}
 use Rattle.number.specs.Restack.{full_of_short, restacked}
-use Rattle.number.specs.RestackLaws.{restack_zero}
+use Rattle.number.proofs.RestackLaws.{restack_zero}
 use Rattle.number.specs.Negate.{negated}
-use Rattle.number.specs.NegateLaws.{negate_short}
+use Rattle.number.proofs.NegateLaws.{negate_short}
 use Rattle.ending.specs.Ending.{normal, closed, ended}
 use Rattle.ending.specs.declared.answer.Answer.TheVariants.{Done}
 use Rattle.addition.specs.Addition.{minus65536, written_short, aligned, ended_sum, aligned_sum, full_route, sum_of, difference_of}
-use Rattle.addition.specs.ShortRouteLaws.{carry_of, negatives, wrapped, carries, sum_positive, sum_negative, sum_least, sum_beyond}
+use Rattle.addition.specs.ShortRouteLaws.{carry_of, negatives, wrapped}
+use Rattle.addition.proofs.ShortRouteLaws.{carries, sum_positive, sum_negative, sum_least, sum_beyond}
 use Rattle.truncation.specs.Truncate.{truncated}
 use Rattle.truncation.specs.TruncateLaws.{truncate_not_full}
 use Rattle.truncation.specs.Int.{short_one, step_down, int_of}

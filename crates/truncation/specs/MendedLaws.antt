@@ -7,12 +7,13 @@ use Rattle.edition.specs.declared.Edition.TheVariants.{Shipped, Mended}
 use Rattle.number.specs.declared.Number.{Number}
 use Rattle.number.specs.Number.{odd, number, zeros, bytes, sign, mantissa, full_of, passes_zero_test}
 use Rattle.number.specs.NumberLaws.{Bytes, full_fails, some_fails}
-use Rattle.number.specs.NotOdd.{short_not_odd}
+use Rattle.number.proofs.NotOdd.{short_not_odd}
 use Rattle.number.specs.OddLaws.{odd_full, odd_word, odd_ended, odd_bytes}
 use Rattle.ending.specs.declared.answer.Answer.{Answer}
 use Rattle.ending.specs.declared.answer.Answer.TheVariants.{Done, TooBig}
 use Rattle.addition.specs.Addition.{minus65536, difference_of}
-use Rattle.addition.specs.MendedLaws.{mended, mended_answer, mended_same, mended_odd_lem, difference_mended}
+use Rattle.addition.specs.MendedLaws.{mended, mended_answer}
+use Rattle.addition.proofs.MendedLaws.{mended_same, mended_odd_lem, difference_mended}
 use Rattle.truncation.specs.Truncate.{taken65536, cleared, truncated}
 use Rattle.truncation.specs.TruncateLaws.{taken_not, taken_never, taken_145, truncate_full, truncate_not_full, truncate_below_one, truncate_to_short, truncate_taken, truncate_cleared, truncate_whole}
 use Rattle.truncation.specs.BitLaws.{dropped, dropped_lt}

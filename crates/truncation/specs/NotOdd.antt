@@ -5,12 +5,12 @@ use Rattle.edition.specs.declared.Edition.TheVariants.{Mended}
 use Rattle.number.specs.declared.Number.{Number}
 use Rattle.number.specs.Number.{zeros, sign, mantissa, short_of, odd, passes_zero_test}
 use Rattle.number.specs.OddLaws.{odd_full, odd_ended}
-use Rattle.number.specs.NotOdd.{short_not_odd}
+use Rattle.number.proofs.NotOdd.{short_not_odd}
 use Rattle.ending.specs.declared.answer.Answer.{Answer}
 use Rattle.ending.specs.declared.answer.Answer.TheVariants.{Done, TooBig}
 use Rattle.ending.specs.NotOdd.{NotOdd}
 use Rattle.addition.specs.Addition.{difference_of}
-use Rattle.addition.specs.NotOdd.{difference_not_odd}
+use Rattle.addition.proofs.NotOdd.{difference_not_odd}
 use Rattle.truncation.specs.Truncate.{cleared, truncated_full, truncated}
 use Rattle.truncation.specs.TruncateLaws.{taken_never, truncate_full, truncate_not_full}
 use Rattle.truncation.specs.BitLaws.{dropped, dropped_lt}

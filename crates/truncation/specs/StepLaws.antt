@@ -13,10 +13,11 @@ use Rattle.number.specs.Restack.{full_of_short, restacked}
 use Rattle.number.specs.Negate.{negated}
 use Rattle.ending.specs.declared.answer.Answer.TheVariants.{Done}
 use Rattle.ending.specs.Ending.{loose}
-use Rattle.ending.specs.EndingLaws.{closed_stored, ended_set}
+use Rattle.ending.proofs.EndingLaws.{closed_stored, ended_set}
 use Rattle.addition.specs.Addition.{ended_sum, difference_of}
 use Rattle.addition.specs.SignedLaws.{same_sign}
-use Rattle.addition.specs.AdditionLaws.{shifted_by, sum_ended, sum_stored}
+use Rattle.addition.specs.AdditionLaws.{shifted_by}
+use Rattle.addition.proofs.AdditionLaws.{sum_ended, sum_stored}
 use Rattle.truncation.specs.Truncate.{taken65536, cleared}
 use Rattle.truncation.specs.BitLaws.{split, cleared_le, Cleared, cleared_word, dropped_lt}
 use Rattle.truncation.specs.Int.{short_one, int_of}

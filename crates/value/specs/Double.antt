@@ -12,8 +12,8 @@ use Rattle.number.specs.Number.{zeros, sign, mantissa, short_magnitude}
 use Rattle.number.specs.NumberLaws.{magnitude_lt}
 use Rattle.number.specs.Value.{signed}
 use Rattle.number.specs.Restack.{restacked, full_of_short}
-use Rattle.number.specs.RestackLaws.{restack_full, restack_zero, restack_some}
-use Rattle.number.specs.RestackValue.{full_of_short_lem}
+use Rattle.number.proofs.RestackLaws.{restack_full, restack_zero, restack_some}
+use Rattle.number.proofs.RestackValueLaws.{full_of_short_lem}
 
 -- "Magnitude: mantissa times 2^(b1 - 160)", as a double with its sign
 unfoldable pub double_of_full : Bool → ℕ → ℕ → Float

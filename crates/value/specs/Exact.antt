@@ -11,8 +11,8 @@ use Rattle.number.specs.NumberLaws.{Bytes, places, magnitude_cases, magnitude_lt
 use Rattle.number.specs.FormLaws.{form_bytes}
 use Rattle.number.specs.Value.{signed, short_value, full_value}
 use Rattle.number.specs.ValueLaws.{short_value_lem, signed_zero}
-use Rattle.number.specs.RestackLaws.{restack_full, restack_zero, restack_some}
-use Rattle.number.specs.RestackValue.{full_of_short_lem, restack_value, restacked_bytes}
+use Rattle.number.proofs.RestackLaws.{restack_full, restack_zero, restack_some}
+use Rattle.number.proofs.RestackValueLaws.{full_of_short_lem, restack_value, restacked_bytes}
 use Rattle.number.specs.Restack.{restacked}
 use Rattle.value.specs.Double.{double_of_full, double_of_restacked, double_of}
 

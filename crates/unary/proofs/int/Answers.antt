@@ -11,7 +11,7 @@ use Rattle.ending.specs.declared.answer.Answer.{Answer}
 use Rattle.ending.specs.declared.answer.Answer.TheVariants.{Done}
 use Rattle.slots.specs.Reach.{lacking, number_at}
 use Rattle.literals.specs.Literals.{row_of}
-use Rattle.literals.specs.WayLaws.{one_lacking, one_malformed, one_put, one_kept}
+use Rattle.literals.proofs.WayLaws.{one_lacking, one_malformed, one_put, one_kept}
 use Rattle.unary.proofs.int.Goals as goal
 use Rattle.unary.proofs.int.Goals.{Else-lacks_at, Else-malformed_at}
 

@@ -5,12 +5,12 @@ use Rattle.edition.specs.declared.Edition.TheVariants.{Shipped}
 use Rattle.number.specs.declared.Number.{Number}
 use Rattle.number.specs.Number.{malformed, number}
 use Rattle.number.specs.Negate.{negated}
-use Rattle.number.specs.NegateLaws.{negate_full, negate_none, negate_formed}
+use Rattle.number.proofs.NegateLaws.{negate_full, negate_none, negate_formed}
 use Rattle.ending.specs.declared.answer.Answer.{Answer}
 use Rattle.ending.specs.declared.answer.Answer.TheVariants.{Done}
 use Rattle.slots.specs.Reach.{lacking, number_at}
 use Rattle.literals.specs.Literals.{row_of}
-use Rattle.literals.specs.WayLaws.{one_lacking, one_malformed, one_put, one_kept}
+use Rattle.literals.proofs.WayLaws.{one_lacking, one_malformed, one_put, one_kept}
 use Rattle.unary.proofs.negate.Goals as goal
 use Rattle.unary.proofs.negate.Goals.{Else-b1-ne0, Else-lacks_at, Else-malformed_at}
 

@@ -5,14 +5,15 @@ use Rattle.edition.specs.declared.Edition.TheVariants.{Shipped}
 use Rattle.number.specs.declared.Number.{Number}
 use Rattle.number.specs.Number.{number}
 use Rattle.number.specs.FormLaws.{malformed_full}
-use Rattle.number.specs.Operand.{Unpacks, unpacks_short}
+use Rattle.number.specs.Operand.{Unpacks}
+use Rattle.number.proofs.OperandLaws.{unpacks_short}
 use Rattle.number.specs.Restack.{restacked}
-use Rattle.number.specs.RestackLaws.{restack_full}
+use Rattle.number.proofs.RestackLaws.{restack_full}
 use Rattle.ending.specs.declared.answer.Answer.{Answer}
 use Rattle.ending.specs.declared.answer.Answer.TheVariants.{Done}
 use Rattle.slots.specs.Reach.{lacking, number_at}
 use Rattle.literals.specs.Literals.{row_of}
-use Rattle.literals.specs.WayLaws.{one_lacking, one_malformed, one_put, one_kept}
+use Rattle.literals.proofs.WayLaws.{one_lacking, one_malformed, one_put, one_kept}
 use Rattle.unary.proofs.re_stack.Goals as goal
 use Rattle.unary.proofs.re_stack.Goals.{After-operand_of-n, Else-lacks_at}
 

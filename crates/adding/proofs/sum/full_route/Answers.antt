@@ -6,7 +6,7 @@ use Rattle.number.specs.Number.{malformed}
 use Rattle.addition.specs.SignBytes.{Says}
 use Rattle.slots.specs.Reach.{number_at}
 use Rattle.literals.specs.Operate.{outcome, operate_of}
-use Rattle.literals.specs.WayLaws.{two_malformed}
+use Rattle.literals.proofs.WayLaws.{two_malformed}
 use Rattle.adding.specs.declared.term.Summand.{Summand}
 use Rattle.operands.specs.Stored.{stored_of, stored_as, two_stored}
 use Rattle.adding.specs.Sum.{flips, literal_of, total_of, sum_line}

@@ -6,7 +6,7 @@ use Rattle.addition.specs.SignBytes.{Says}
 use Rattle.slots.specs.Reach.{lacking, refusal_of, number_at}
 use Rattle.slots.specs.ReachLaws.{has}
 use Rattle.literals.specs.Operate.{outcome}
-use Rattle.literals.specs.WayLaws.{two_lacking, two_malformed, two_done}
+use Rattle.literals.proofs.WayLaws.{two_lacking, two_malformed, two_done}
 use Rattle.operands.specs.Stored.{stored_of, stored_as, two_stored}
 use Rattle.adding.specs.Sum.{flips, total_of, sum_line}
 use Rattle.adding.proofs.sum.sum.Goals as goal

@@ -6,7 +6,7 @@ use Rattle.number.specs.NumberLaws.{Bytes}
 use Rattle.number.specs.FormLaws.{malformed_full}
 use Rattle.number.specs.Value.{signed}
 use Rattle.number.specs.Restack.{restacked}
-use Rattle.number.specs.RestackLaws.{restack_full}
+use Rattle.number.proofs.RestackLaws.{restack_full}
 use Rattle.addition.specs.SignedLaws.{nat_abs_signed, held}
 use Rattle.slots.specs.Reach.{number_at}
 use Rattle.adding.specs.declared.term.Summand.{Summand}

@@ -4,7 +4,8 @@ use Rattle.number.specs.Number.{number, low}
 use Rattle.addition.specs.declared.short.Short.TheVariants.{Stored, Exact, Beyond}
 use Rattle.addition.specs.declared.short.Halves.{Halves}
 use Rattle.addition.specs.SecondHalves.{second_halves, added_halves}
-use Rattle.addition.specs.SignBytes.{Says, seventeen_of, Formed, one_unformed, both_formed, answer_stored, answer_beyond, answer_exact}
+use Rattle.addition.specs.SignBytes.{Says, seventeen_of, Formed}
+use Rattle.addition.proofs.SignBytesLaws.{one_unformed, both_formed, answer_stored, answer_beyond, answer_exact}
 use Rattle.addition.proofs.short.short_sum.Goals as goal
 use Rattle.addition.proofs.short.short_sum.Goals.{After-total-sum, Else-wrapping_add_u8-gt1, Else-wrapping_add_u8-lt2}
 

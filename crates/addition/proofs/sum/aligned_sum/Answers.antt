@@ -3,7 +3,7 @@ use Rattle.std.proofs.Common.{Bool, SFits, ap, ap₂, arith, cond, false, ltb, n
 use lib.Signed.{rem_z}
 use Rattle.addition.specs.Addition.{aligned, ended_sum}
 use Rattle.addition.specs.SignedLaws.{low_bits_lt, held}
-use Rattle.addition.specs.MantissaLaws.{larger_chosen}
+use Rattle.addition.proofs.MantissaLaws.{larger_chosen}
 use Rattle.addition.proofs.sum.aligned_sum.Goals as goal
 use Rattle.addition.proofs.sum.aligned_sum.Goals.{After-chosen, After-chosen-2, After-low_bits-n, Start}
 

@@ -2,7 +2,7 @@
 use Rattle.std.proofs.Common.{ap, arith, sym, ℕ, ◌+◌, ◌∙◌}
 use Rattle.number.specs.Number.{number}
 use Rattle.ending.specs.declared.answer.Answer.TheVariants.{Done}
-use Rattle.addition.specs.AdditionLaws.{sum_ended, sum_too_big, sum_stored}
+use Rattle.addition.proofs.AdditionLaws.{sum_ended, sum_too_big, sum_stored}
 use Rattle.addition.proofs.sum.carry_and_end.Goals as goal
 
 pub returns : goal.returns

@@ -2,8 +2,8 @@
 use Rattle.std.proofs.Common.{SFits, ap, arith, nat_abs, of_z, pos, sym, to_z, to_z-of_z, w64, ℕ, ℤ, ◌*ℤ◌, ◌*◌, ◌+ℤ◌, ◌+◌, ◌<◌, ◌^◌, ◌∙◌, ◌≡◌, ◌≤◌}
 use lib.Signed.{shr_z}
 use Rattle.addition.specs.SignedLaws.{nat_abs_twice, nat_abs_moved, nat_abs_sum, held}
-use Rattle.addition.specs.AdditionLaws.{moved_away}
-use Rattle.addition.specs.MantissaLaws.{twice_moved, aligned_lt}
+use Rattle.addition.proofs.AdditionLaws.{moved_away}
+use Rattle.addition.proofs.MantissaLaws.{twice_moved, aligned_lt}
 use Rattle.addition.proofs.sum.shifted.Goals as goal
 
 module _ (x : ℤ) (k : ℕ) (f : SFits w64 x) (h : nat_abs x < 2 ^ 32) where

@@ -2,7 +2,7 @@
 use Rattle.std.proofs.Common.{ap, ap₂, arith, nat_abs, of_z, subst, sym, to_z, to_z-of_z, w64, ℤ, ◌+ℤ◌, ◌+◌, ◌<◌, ◌^◌, ◌∙◌, ◌≡◌}
 use Rattle.addition.specs.Addition.{aligned, ended_sum}
 use Rattle.addition.specs.SignedLaws.{nat_abs_sum, holds, held}
-use Rattle.addition.specs.MantissaLaws.{aligned_lt}
+use Rattle.addition.proofs.MantissaLaws.{aligned_lt}
 use Rattle.addition.proofs.sum.summed.Goals as goal
 use Rattle.addition.proofs.sum.summed.Goals.{After-shifted}
 

@@ -2,14 +2,14 @@
 use Rattle.std.proofs.Common.{List, ap, ap₂, arith, false, refl, sym, ℕ, ◌+◌, ◌-◌, ◌||◌, ◌∙◌, ◌≡◌}
 use mathlib.Core.Bool.{or-true}
 use Rattle.number.specs.Number.{malformed}
-use Rattle.number.specs.Operand.{packed_byte}
+use Rattle.number.proofs.OperandLaws.{packed_byte}
 use Rattle.division.specs.Division.{quotient_of, restacked_quotient}
 use Rattle.slots.specs.Reach.{lacking, number_at}
 use Rattle.slots.specs.ReachLaws.{has}
 use Rattle.literals.specs.Literals.{row_of}
 use Rattle.literals.specs.Reports.{malformed_in}
 use Rattle.literals.specs.Operate.{outcome}
-use Rattle.literals.specs.WayLaws.{two_lacking, two_malformed, two_too_big, two_done}
+use Rattle.literals.proofs.WayLaws.{two_lacking, two_malformed, two_too_big, two_done}
 use Rattle.by_edition.specs.EitherLaws.{pair_refused, formed, formless}
 use Rattle.by_edition.proofs.two.divide.Goals as goal
 use Rattle.by_edition.proofs.two.divide.Goals.{After-division-answer, Else-b, Else-lacks}

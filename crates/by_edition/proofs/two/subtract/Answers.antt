@@ -1,7 +1,7 @@
 -- `subtract` meets its contract: an odd operand is refused, and the answer is the shipped edition's, mended.
 use Rattle.std.proofs.Common.{refl, sym, ◌∙◌}
 use Rattle.addition.specs.Addition.{difference_of}
-use Rattle.addition.specs.MendedLaws.{difference_mended}
+use Rattle.addition.proofs.MendedLaws.{difference_mended}
 use Rattle.literals.specs.Literals.{row_of}
 use Rattle.by_edition.specs.EitherLaws.{Follows, leaves, pair_refused, pair_follows}
 use Rattle.by_edition.proofs.two.subtract.Goals as goal

@@ -3,7 +3,7 @@ use Rattle.std.proofs.Common.{false, sym, ◌∙◌, ◌≡◌}
 use Rattle.edition.specs.declared.Edition.TheVariants.{Shipped}
 use Rattle.division.specs.Division.{quotient_of}
 use Rattle.slots.specs.Reach.{lacking}
-use Rattle.literals.specs.WayLaws.{two_lacking, two_malformed}
+use Rattle.literals.proofs.WayLaws.{two_lacking, two_malformed}
 use Rattle.dividing.specs.Quotient.{division_line}
 use Rattle.dividing.proofs.quotient.divide.Goals as goal
 use Rattle.dividing.proofs.quotient.divide.Goals.{Else-lacks_at}

@@ -3,11 +3,12 @@ use Rattle.std.proofs.Common.{ap, ap₂, arith, false, mod-eq_of_lt, subst, sym,
 use Rattle.edition.specs.declared.Edition.TheVariants.{Shipped}
 use Rattle.number.specs.declared.Number.{Number}
 use Rattle.number.specs.Number.{number}
-use Rattle.number.specs.Operand.{operand, Unpacks, full_operand, unpacks_short}
+use Rattle.number.specs.Operand.{operand, Unpacks}
+use Rattle.number.proofs.OperandLaws.{full_operand, unpacks_short}
 use Rattle.division.specs.Division.{quotient_of}
 use Rattle.slots.specs.Reach.{number_at}
 use Rattle.literals.specs.Operate.{outcome, operate_of}
-use Rattle.literals.specs.WayLaws.{two_malformed}
+use Rattle.literals.proofs.WayLaws.{two_malformed}
 use Rattle.dividing.specs.Quotient.{division_line}
 use Rattle.dividing.proofs.quotient.divided.Goals as goal
 use Rattle.dividing.proofs.quotient.divided.Goals.{After-operand_of-b, After-word_at-word}

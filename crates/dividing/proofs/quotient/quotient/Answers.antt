@@ -1,7 +1,7 @@
 -- `quotient` meets its contract: the answer is the quotient of the numbers re-stacked.
 use Rattle.std.proofs.Common.{ap, ap₂, refl, sym, ℕ, ◌∙◌}
 use Rattle.edition.specs.declared.Edition.TheVariants.{Shipped}
-use Rattle.number.specs.Operand.{packed_byte}
+use Rattle.number.proofs.OperandLaws.{packed_byte}
 use Rattle.division.specs.Division.{quotient_of, restacked_quotient}
 use Rattle.literals.specs.Operate.{operate_of}
 use Rattle.operands.specs.Stored.{stored_of, stored_as, two_stored}

@@ -1,6 +1,6 @@
 -- `digits` meets its contract by the quotient law at 33 rounds.
 use Rattle.std.proofs.Common.{arith, ◌%◌, ◌+◌, ◌^◌}
-use Rattle.division.specs.DivisionLaws.{rounds33_div, rounds33_below}
+use Rattle.division.proofs.DivisionLaws.{rounds33_div, rounds33_below}
 use Rattle.division.proofs.quotient.digits.Goals as goal
 
 pub returns : goal.returns

@@ -5,7 +5,7 @@ use Rattle.number.specs.Number.{sign, mantissa, full_of}
 use Rattle.ending.specs.Ending.{loose, closed}
 use Rattle.division.specs.Rounds.{rounds33, digit34}
 use Rattle.division.specs.Operand.{IsFull}
-use Rattle.division.specs.DivisionLaws.{quotient_by_zero, quotient_of_zero, quotient_closed, signs_differ}
+use Rattle.division.proofs.DivisionLaws.{quotient_by_zero, quotient_of_zero, quotient_closed, signs_differ}
 use Rattle.division.proofs.quotient.division.Goals as goal
 
 pub returns : goal.returns

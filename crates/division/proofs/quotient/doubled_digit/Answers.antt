@@ -2,7 +2,7 @@
 use Rattle.std.proofs.Common.{arith, sym, ◌%◌, ◌+◌, ◌^◌}
 use Rattle.division.specs.Rounds.{rounds33}
 use Rattle.division.specs.RoundsLaws.{digit34_goes, digit34_stays}
-use Rattle.division.specs.DivisionLaws.{rounds33_mod}
+use Rattle.division.proofs.DivisionLaws.{rounds33_mod}
 use Rattle.division.proofs.quotient.doubled_digit.Goals as goal
 
 pub returns-then-left-by : goal.returns-then-left-by

@@ -3,7 +3,7 @@ use Rattle.std.proofs.Common.{ap, arith, sym, ℕ, ◌%◌, ◌+◌, ◌<◌, �
 use Rattle.edition.specs.declared.Edition.{Edition}
 use Rattle.division.specs.Rounds.{rounds33, digit34}
 use Rattle.division.specs.RoundsLaws.{digit34_zero}
-use Rattle.division.specs.DivisionLaws.{rounds33_write}
+use Rattle.division.proofs.DivisionLaws.{rounds33_write}
 use Rattle.division.proofs.quotient.next_digit.Goals as goal
 
 in_edition : {v w : Edition} (m n r : ℕ) → v ≡ w → (r ≡ digit34 w n (rounds33 m n)) × (r < 2) → (r ≡ digit34 v n (rounds33 m n)) × (r < 2)

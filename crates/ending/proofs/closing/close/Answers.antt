@@ -1,7 +1,7 @@
 -- `close` meets its contract: each return is one case of `closed`, and the tests that led there are its law's premises.
 use Rattle.std.proofs.Common.{ap, arith, sym, ℕ, ◌-◌, ◌∙◌}
 use Rattle.number.specs.Number.{number}
-use Rattle.ending.specs.EndingLaws.{closed_too_big, closed_stored}
+use Rattle.ending.proofs.EndingLaws.{closed_too_big, closed_stored}
 use Rattle.ending.specs.declared.answer.Answer.TheVariants.{Done}
 use Rattle.ending.proofs.closing.close.Goals as goal
 

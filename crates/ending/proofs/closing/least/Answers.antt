@@ -2,7 +2,7 @@
 use Rattle.std.proofs.Common.{ap, arith, sym, ℕ, ◌∙◌}
 use Rattle.number.specs.Number.{number}
 use Rattle.ending.specs.Ending.{loose}
-use Rattle.ending.specs.EndingLaws.{closed_below_zero, closed_smallest}
+use Rattle.ending.proofs.EndingLaws.{closed_below_zero, closed_smallest}
 use Rattle.ending.specs.declared.answer.Answer.TheVariants.{Done}
 use Rattle.ending.proofs.closing.least.Goals as goal
 

@@ -3,8 +3,9 @@
 use Rattle.std.proofs.Common.{ap, arith, sym, ℕ, ◌%◌, ◌*◌, ◌+◌, ◌-◌, ◌/◌, ◌<◌, ◌^◌, ◌∙◌, ◌≡◌}
 use Rattle.number.specs.LeadingZeros.{zeros_below}
 use Rattle.ending.specs.Ending.{loose, closed}
-use Rattle.ending.specs.EndingLaws.{ended_zero, ended_set, ended_below}
-use Rattle.ending.specs.Shift.{taken_in, ended_shifted, shift_fits}
+use Rattle.ending.proofs.EndingLaws.{ended_zero, ended_set, ended_below}
+use Rattle.ending.specs.Shift.{taken_in}
+use Rattle.ending.proofs.ShiftLaws.{ended_shifted, shift_fits}
 use Rattle.ending.proofs.doubling.ending.Goals as goal
 use Rattle.ending.proofs.doubling.ending.Goals.{After-leading_zeros-places, After-taken_in}
 

@@ -1,7 +1,7 @@
 -- `delete` meets its contract: it moves the depth and no byte.
 use Rattle.std.proofs.Common.{arith, sym, ◌∙◌}
 use Rattle.slots.specs.ReachLaws.{has}
-use Rattle.literals.specs.MoveLaws.{delete_lacking, delete_done}
+use Rattle.literals.proofs.MoveLaws.{delete_lacking, delete_done}
 use Rattle.moving.proofs.literal.delete.Goals as goal
 
 pub returns-then-lacks : goal.returns-then-lacks

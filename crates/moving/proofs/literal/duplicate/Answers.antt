@@ -3,7 +3,7 @@ use Rattle.std.proofs.Common.{List, ap, ap₂, arith, sym, ℕ, ◌∙◌}
 use Rattle.number.specs.Number.{number}
 use Rattle.slots.specs.Reach.{put_at}
 use Rattle.literals.specs.Operate.{outcome}
-use Rattle.literals.specs.MoveLaws.{duplicate_lacking, duplicate_done}
+use Rattle.literals.proofs.MoveLaws.{duplicate_lacking, duplicate_done}
 use Rattle.moving.proofs.literal.duplicate.Goals as goal
 
 pub returns-then-lacks : goal.returns-then-lacks

@@ -4,7 +4,7 @@ use Rattle.number.specs.declared.Number.{Number}
 use Rattle.number.specs.Number.{number}
 use Rattle.slots.specs.Reach.{put_at}
 use Rattle.literals.specs.Operate.{outcome}
-use Rattle.literals.specs.MoveLaws.{exchange_lacking, exchange_done}
+use Rattle.literals.proofs.MoveLaws.{exchange_lacking, exchange_done}
 use Rattle.moving.proofs.literal.exchange.Goals as goal
 
 pub returns : goal.returns

@@ -1,7 +1,7 @@
 -- `delete_in_loop` meets its contract, as `delete` does.
 use Rattle.std.proofs.Common.{arith, sym, ◌∙◌}
 use Rattle.slots.specs.ReachLaws.{has}
-use Rattle.literals.specs.MoveLaws.{delete_lacking, delete_done}
+use Rattle.literals.proofs.MoveLaws.{delete_lacking, delete_done}
 use Rattle.moving.proofs.looped.delete_in_loop.Goals as goal
 
 pub returns-then-lacks_top : goal.returns-then-lacks_top

@@ -3,7 +3,7 @@ use Rattle.std.proofs.Common.{Bool, List, ap, ap₂, arith, false, ltb, ltb-fals
 use Rattle.slots.specs.Reach.{lacking, refusal_of}
 use Rattle.slots.specs.ReachLaws.{has, lacking_few, copied_nowhere, copied_at}
 use Rattle.literals.specs.Operate.{outcome}
-use Rattle.literals.specs.MoveLaws.{duplicate_lacking, duplicate_done}
+use Rattle.literals.proofs.MoveLaws.{duplicate_lacking, duplicate_done}
 use Rattle.moving.proofs.looped.duplicate_in_loop.Goals as goal
 use Rattle.moving.proofs.looped.duplicate_in_loop.Goals.{Else-copy_top, Then-copy_top}
 

@@ -3,7 +3,8 @@ use Rattle.std.proofs.Common.{List, ap, ap₂, arith, sym, ℕ, ◌∙◌}
 use Rattle.number.specs.Number.{number}
 use Rattle.slots.specs.Slots.{put_slot}
 use Rattle.slots.specs.Reach.{put_at}
-use Rattle.slots.specs.PushLaws.{push_lacking, Room, push_room, alone, put_alone, push_not_five, push_malformed, pushed}
+use Rattle.slots.specs.PushLaws.{Room}
+use Rattle.slots.proofs.PushLaws.{push_lacking, push_room, alone, put_alone, push_not_five, push_malformed, pushed}
 use Rattle.literals.specs.Operate.{outcome}
 use Rattle.moving.proofs.pushing.push.Goals as goal
 use Rattle.moving.proofs.pushing.push.Goals.{Else-lacks}

@@ -5,7 +5,7 @@ use Rattle.number.specs.Number.{number, malformed, low, full_of, short_of}
 use Rattle.number.specs.LeadingZeros.{zeros_are, zeros_below}
 use Rattle.number.specs.Restack.{full_of_short}
 use Rattle.ending.specs.declared.answer.Answer.TheVariants.{Done}
-use Rattle.division.specs.DivisionLaws.{signs_differ}
+use Rattle.division.proofs.DivisionLaws.{signs_differ}
 use Rattle.multiplication.specs.Multiplication.{short_product, sign_of_two}
 use Rattle.multiplication.specs.ShortProduct.{multiplied_malformed, product_none, product_some, product_exact}
 use Rattle.multiplication.proofs.product.short_product.Goals as goal

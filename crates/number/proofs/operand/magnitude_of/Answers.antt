@@ -2,7 +2,7 @@
 use Rattle.std.proofs.Common.{ap, arith, bit_xor, refl, sym, ℕ, ◌%◌, ◌*◌, ◌<◌, ◌∙◌, ◌≡◌}
 use Rattle.number.specs.Number.{number}
 use Rattle.number.specs.FormLaws.{malformed_between}
-use Rattle.number.specs.Operand.{masked}
+use Rattle.number.proofs.OperandLaws.{masked}
 use Rattle.number.proofs.operand.magnitude_of.Goals as goal
 
 pub returns-then-wrapping_sub_u32-lt254 : goal.returns-then-wrapping_sub_u32-lt254

@@ -3,8 +3,8 @@ use Rattle.std.proofs.Common.{ap, arith, refl, sym, ℕ, ◌%◌, ◌*◌, ◌-�
 use lib.Count.{count_leading_zeros}
 use Rattle.number.specs.Number.{number, full_of}
 use Rattle.number.specs.LeadingZeros.{zeros_are, zeros_below}
-use Rattle.number.specs.RestackLaws.{restack_zero}
-use Rattle.number.specs.Operand.{short_stands}
+use Rattle.number.proofs.RestackLaws.{restack_zero}
+use Rattle.number.proofs.OperandLaws.{short_stands}
 use Rattle.number.proofs.operand.operand_of.Goals as goal
 use Rattle.number.proofs.operand.operand_of.Goals.{After-leading_zeros-places}
 

@@ -2,7 +2,8 @@
 use Rattle.std.proofs.Common.{ap₂, arith, false, mod-eq_of_lt, subst, sym, ◌∙◌}
 use Rattle.number.specs.declared.Number.{Number}
 use Rattle.number.specs.Number.{number}
-use Rattle.number.specs.Operand.{Unpacks, operand, full_operand, unpacks_short}
+use Rattle.number.specs.Operand.{Unpacks, operand}
+use Rattle.number.proofs.OperandLaws.{full_operand, unpacks_short}
 use Rattle.operands.proofs.reading.operand.Goals as goal
 
 pub returns-then-b1-ne0 : goal.returns-then-b1-ne0

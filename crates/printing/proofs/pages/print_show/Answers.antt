@@ -1,7 +1,7 @@
 -- `print_show` meets its contract: the replay, the records that it speaks of, and the line for its verdict.
 use Rattle.std.proofs.Common.{ap}
 use Rattle.text.specs.Put.{Text, puts_then}
-use Rattle.replaying.specs.Bounds.{spoken_within}
+use Rattle.replaying.proofs.BoundsLaws.{spoken_within}
 use Rattle.printing.specs.Page.{done_lines, page_of}
 use Rattle.printing.specs.Names.{puts_same}
 use Rattle.printing.proofs.pages.print_show.Goals as goal

@@ -1,7 +1,7 @@
 -- `put_done` meets its contract: its arms are the definition's, and the records that a verdict speaks of are there.
 use Rattle.std.proofs.Common.{arith}
 use Rattle.text.specs.Put.{puts_of, puts_then}
-use Rattle.replaying.specs.Bounds.{agree_fits, differ_fits}
+use Rattle.replaying.proofs.BoundsLaws.{agree_fits, differ_fits}
 use Rattle.printing.specs.Page.{done_lines}
 use Rattle.printing.proofs.pages.put_done.Goals as goal
 

@@ -2,8 +2,8 @@
 use Rattle.std.proofs.Common.{arith, refl, sym, ◌∙◌}
 use native.Mathlib.Nat.{add-sub_cancel_left}
 use Rattle.recording.specs.RecordingLaws.{whole_records}
-use Rattle.replaying.specs.HeldLaws.{held_agrees, held_differs}
-use Rattle.replaying.specs.ReplayLaws.{at_end, turn_differs, turn_agrees, replay_over, replay_refused, replay_starts}
+use Rattle.replaying.proofs.HeldLaws.{held_agrees, held_differs}
+use Rattle.replaying.proofs.ReplayLaws.{at_end, turn_differs, turn_agrees, replay_over, replay_refused, replay_starts}
 use Rattle.replaying.proofs.replaying.replay.Goals as goal
 
 -- a record is 16 bytes from its place on

@@ -1,6 +1,6 @@
 -- `has_top` meets its contract: five bytes are the same where b1 and the four others are.
 use Rattle.std.proofs.Common.{arith, sym, ◌∙◌}
-use Rattle.replaying.specs.TopLaws.{top_not_five, top_b1, top_four}
+use Rattle.replaying.proofs.TopLaws.{top_not_five, top_b1, top_four}
 use Rattle.replaying.proofs.steps.has_top.Goals as goal
 
 pub returns-then-top_b1 : goal.returns-then-top_b1

@@ -1,8 +1,8 @@
 -- `refused` meets its contract: the head and then the top decide.
 use Rattle.std.proofs.Common.{ap, false, not, sym, true, ◌∙◌}
 use Rattle.literals.specs.Operate.{operate_of}
-use Rattle.replaying.specs.ReplayLaws.{step_literal, head_differs_lem, literal_differs}
-use Rattle.replaying.specs.HeldLaws.{holds}
+use Rattle.replaying.proofs.ReplayLaws.{step_literal, head_differs_lem, literal_differs}
+use Rattle.replaying.proofs.HeldLaws.{holds}
 use Rattle.replaying.proofs.steps.refused.Goals as goal
 
 pub returns-then-has_top : goal.returns-then-has_top

@@ -3,8 +3,8 @@ use Rattle.std.proofs.Common.{[], ap, false, not, refl, sym, true, ◌∙◌, �
 use Rattle.slots.specs.Push.{push_of}
 use Rattle.literals.specs.Operate.{operate_of}
 use Rattle.recording.specs.Recording.{literal_in}
-use Rattle.replaying.specs.ReplayLaws.{step_push, step_literal, push_differs, literal_differs}
-use Rattle.replaying.specs.HeldLaws.{holds, holds_as, report_differs_lem, depth_differs_lem, head_same}
+use Rattle.replaying.proofs.ReplayLaws.{step_push, step_literal, push_differs, literal_differs}
+use Rattle.replaying.proofs.HeldLaws.{holds, holds_as, report_differs_lem, depth_differs_lem, head_same}
 use Rattle.replaying.proofs.steps.step.Goals as goal
 use Rattle.replaying.proofs.steps.step.Goals.{After-push-report, Else-literal-eq0}
 

@@ -1,6 +1,6 @@
 -- `top_differs` meets its contract: only a literal's top is looked at.
 use Rattle.std.proofs.Common.{ap, not, sym, ◌∙◌}
-use Rattle.replaying.specs.TopLaws.{top_of_push, top_of_literal}
+use Rattle.replaying.proofs.TopLaws.{top_of_push, top_of_literal}
 use Rattle.replaying.proofs.steps.top_differs.Goals as goal
 
 pub returns-then-literal_in-eq0 : goal.returns-then-literal_in-eq0

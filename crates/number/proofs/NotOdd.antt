@@ -9,7 +9,7 @@ use Rattle.number.specs.NumberLaws.{upper, places, magnitude_lt, zero_passes}
 use Rattle.number.specs.FormLaws.{FormBytes, form_bytes}
 use Rattle.number.specs.OddLaws.{odd_full, odd_positive, odd_other, odd_ended}
 use Rattle.number.specs.Restack.{full_of_short, restacked}
-use Rattle.number.specs.RestackLaws.{restack_full, restack_zero, restack_some}
+use Rattle.number.proofs.RestackLaws.{restack_full, restack_zero, restack_some}
 use Rattle.number.specs.LeadingZeros.{top_set}
 use Rattle.number.specs.Negate.{negated_as, negated}
 

@@ -9,12 +9,12 @@ use Rattle.number.specs.NumberLaws.{magnitude_lt}
 use Rattle.number.specs.Value.{signed}
 use Rattle.number.specs.LeadingZeros.{places_are, zeros_of}
 use Rattle.number.specs.Restack.{full_of_short}
-use Rattle.number.specs.RestackLaws.{restack_some}
-use Rattle.number.specs.RestackValue.{full_of_short_lem}
+use Rattle.number.proofs.RestackLaws.{restack_some}
+use Rattle.number.proofs.RestackValueLaws.{full_of_short_lem}
 use Rattle.ending.specs.declared.answer.Answer.TheVariants.{Done}
 use Rattle.addition.specs.Addition.{signed_mantissa, aligned, ended_sum, aligned_sum, full_route}
 use Rattle.addition.specs.SignedLaws.{same_sign}
-use Rattle.addition.specs.AdditionLaws.{moved_within, sum_stored}
+use Rattle.addition.proofs.AdditionLaws.{moved_within, sum_stored}
 
 -- v with k + 16 zeros above it, moved k places down: no digit is lost
 unmoved_digits : (s v k : ℕ) → s < 2 → (2 * (v * 2 ^ (k + 16)) + 2 ^ k - s) / 2 ^ (k + 1) ≡ v * 2 ^ 16

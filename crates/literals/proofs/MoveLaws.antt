@@ -16,7 +16,7 @@ use Rattle.slots.specs.ReachLaws.{has, enough, lacking_over, lacking_few, lackin
 use Rattle.literals.specs.Literals.{exchange, delete, duplicate, row, row_of}
 use Rattle.literals.specs.Reports.{not_in_table, no_room_for, malformed_operand, too_big}
 use Rattle.literals.specs.Operate.{outcome, bytes_after, operate_of}
-use Rattle.literals.specs.WayLaws.{way_lacking, way_no_room, way_done}
+use Rattle.literals.proofs.WayLaws.{way_lacking, way_no_room, way_done}
 
 exchanges : row_of 1 ≡ row 1 exchange 2 2
 unfolding row_of

@@ -6,10 +6,11 @@ use Rattle.std.proofs.Math.IntN.{+ℤ_comm}
 use Rattle.std.specs.Int.Signed.{shr_z}
 use Rattle.ending.specs.declared.answer.Answer.{Answer}
 use Rattle.ending.specs.Ending.{ended}
-use Rattle.ending.specs.EndingLaws.{ended_zero}
+use Rattle.ending.proofs.EndingLaws.{ended_zero}
 use Rattle.addition.specs.Addition.{negative, aligned, ended_sum, signed_sum}
 use Rattle.addition.specs.SignedLaws.{nat_abs_signed, signed_parts, negative_lt, floor_signed}
-use Rattle.addition.specs.AdditionLaws.{shifted_by, shifted_lt, none_shifted, aligned_signed, moved_within, first_larger, sum_ended}
+use Rattle.addition.specs.AdditionLaws.{shifted_by}
+use Rattle.addition.proofs.AdditionLaws.{shifted_lt, none_shifted, aligned_signed, moved_within, first_larger, sum_ended}
 
 -- t and 2^k more, over twice 2^k, is half of one more than t over 2^k
 one_more : (t k : ℕ) → (t + 2 ^ k) / 2 ^ (k + 1) ≡ (t / 2 ^ k + 1) / 2

@@ -10,7 +10,7 @@ use Rattle.number.specs.Number.{number, b2, b3, b4, b5, swapped_of}
 use Rattle.number.specs.NumberLaws.{word_of_lem, swapped_word}
 use Rattle.slots.specs.Slots.{slot, bytes_of}
 use Rattle.slots.specs.SlotLaws.{bytes_of_slot}
-use Rattle.slots.specs.PushLaws.{alone_bytes}
+use Rattle.slots.proofs.PushLaws.{alone_bytes}
 use Rattle.slots.specs.Reach.{lacking, number_at}
 use Rattle.slots.specs.ReachLaws.{has, none_at, number_at_lem}
 use Rattle.slots.specs.View.{view_of}

@@ -9,9 +9,9 @@ use Rattle.number.specs.declared.form.Form.TheVariants.{Full}
 use Rattle.number.specs.Number.{number, zeros, sign, low, complement_of, short_magnitude, halves, short_of}
 use Rattle.number.specs.NumberLaws.{Bytes, low_halves, magnitude_cases, magnitude_lt}
 use Rattle.number.specs.Restack.{full_of_short, restacked}
-use Rattle.number.specs.RestackLaws.{restack_some, restack_zero}
+use Rattle.number.proofs.RestackLaws.{restack_some, restack_zero}
 use Rattle.number.specs.Negate.{negated_as, negated}
-use Rattle.number.specs.NegateLaws.{negate_zero, negate_short}
+use Rattle.number.proofs.NegateLaws.{negate_zero, negate_short}
 
 -- what is written for a sign and a magnitude is read as them
 pub short_parts : (s v : ℕ) → s < 2 → v < 2 ^ 16 → (sign (short_of s v) ≡ s) × (short_magnitude (short_of s v) ≡ v)

@@ -11,15 +11,16 @@ use Rattle.number.specs.declared.Number.{Number}
 use Rattle.number.specs.Number.{zeros, mantissa, full_of}
 use Rattle.number.specs.NumberLaws.{Bytes, mantissa_full}
 use Rattle.number.specs.Restack.{restacked, CountsAsZero}
-use Rattle.number.specs.RestackValue.{restacked_zero}
+use Rattle.number.proofs.RestackValueLaws.{restacked_zero}
 use Rattle.ending.specs.declared.answer.Answer.{Answer}
 use Rattle.ending.specs.declared.answer.Answer.TheVariants.{TooBig}
 use Rattle.ending.specs.Ending.{Loose, loose, rounded, closed}
-use Rattle.ending.specs.EndingLaws.{closed_too_big, closed_too_big_only, closed_stored}
+use Rattle.ending.proofs.EndingLaws.{closed_too_big, closed_too_big_only, closed_stored}
 use Rattle.division.specs.Rounds.{Mantissas, rounds33, digit34}
 use Rattle.division.specs.RoundsLaws.{Writes, digit34_zero, digit34_goes, digit34_stays}
 use Rattle.division.specs.Division.{ended_rounds, full_quotient, quotient_of}
-use Rattle.division.specs.DivisionLaws.{rounds33_write, rounds33_low, rounds33_below, rounds33_doubled, rounds33_above, last, ended_doubled, ended_whole_lem, quotient_by_zero, quotient_of_zero, quotient_full}
+use Rattle.division.specs.DivisionLaws.{last}
+use Rattle.division.proofs.DivisionLaws.{rounds33_write, rounds33_low, rounds33_below, rounds33_doubled, rounds33_above, ended_doubled, ended_whole_lem, quotient_by_zero, quotient_of_zero, quotient_full}
 use Rattle.division.specs.Operand.{restacked_full}
 use Rattle.division.specs.Demand3.{nearest, added, exact, R, Exception, Demand3, QuotientTooBig}
 

@@ -7,7 +7,7 @@ use Rattle.number.specs.Number.{zeros}
 use Rattle.number.specs.OddLaws.{odd_ended}
 use Rattle.number.specs.Restack.{restacked}
 use Rattle.ending.specs.declared.answer.Answer.TheVariants.{Done, TooBig}
-use Rattle.ending.specs.Ends.{ended_zero_or_full}
+use Rattle.ending.proofs.EndsLaws.{ended_zero_or_full}
 use Rattle.ending.specs.NotOdd.{NotOdd, ended_not_odd}
 use Rattle.division.specs.Division.{full_quotient, restacked_quotient, quotient_of}
 

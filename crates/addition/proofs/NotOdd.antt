@@ -6,7 +6,8 @@ use Rattle.ending.specs.declared.answer.Answer.{Answer}
 use Rattle.ending.specs.declared.answer.Answer.TheVariants.{Done, TooBig}
 use Rattle.ending.specs.NotOdd.{NotOdd}
 use Rattle.addition.specs.Addition.{sum_of, difference_of}
-use Rattle.addition.specs.MendedLaws.{mended_answer, mended_never, sum_mended, difference_mended}
+use Rattle.addition.specs.MendedLaws.{mended_answer}
+use Rattle.addition.proofs.MendedLaws.{mended_never, sum_mended, difference_mended}
 
 mended_not_odd : (a : Answer) → NotOdd (mended_answer a)
 mended_not_odd (Done n) = mended_never n

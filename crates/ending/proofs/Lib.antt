@@ -1,0 +1,3 @@
+pub mod EndingLaws
+pub mod EndsLaws
+pub mod ShiftLaws

@@ -1,0 +1,4 @@
+pub mod BoundsLaws
+pub mod HeldLaws
+pub mod ReplayLaws
+pub mod TopLaws
