@@ -14,7 +14,6 @@ use Rattle.number.specs.FormLaws.{malformed_short, malformed_between, malformed_
 use Rattle.number.specs.Negate.{negated}
 use Rattle.number.proofs.NegateLaws.{negate_zero, negate_short}
 use Rattle.ending.specs.declared.answer.Answer.TheVariants.{Done}
-use Rattle.addition.specs.declared.short.Short.{Short}
 use Rattle.addition.specs.declared.short.Short.TheVariants.{Malformed, Stored, Exact, Beyond}
 use Rattle.addition.specs.declared.short.Halves.{Halves}
 use Rattle.addition.specs.Addition.{full_route, sum_of, second_of}

@@ -5,14 +5,13 @@ use Rattle.std.proofs.lemmas.Bool.{eqb-false}
 use Rattle.std.specs.Int.Signed.{shr_z}
 use Rattle.edition.specs.declared.Edition.{Edition}
 use Rattle.number.specs.declared.Number.{Number}
-use Rattle.number.specs.Restack.{restacked}
 use Rattle.number.proofs.RestackValueLaws.{restacked_exponent}
 use Rattle.number.specs.Negate.{negated}
 use Rattle.number.proofs.NegateLaws.{negated_exponent}
 use Rattle.ending.specs.declared.answer.Answer.{Answer}
 use Rattle.ending.specs.declared.answer.Answer.TheVariants.{Done, TooBig}
 use Rattle.ending.proofs.EndingLaws.{ended_too_big_only}
-use Rattle.addition.specs.Addition.{stored_short, short_sum, ended_whole, ended_sum, larger, whole_sum, aligned_sum, full_route, short_route, sum_of, difference_of}
+use Rattle.addition.specs.Addition.{stored_short, short_sum, ended_whole, ended_sum, aligned_sum, full_route, short_route, sum_of, difference_of}
 use Rattle.addition.proofs.AdditionLaws.{carried_255}
 use Rattle.addition.proofs.ShortRouteLaws.{first_full, second_full}
 use Rattle.addition.specs.TooBig.{SumTooBig}

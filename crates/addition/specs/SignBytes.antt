@@ -1,25 +1,13 @@
 -- The short route by its sign bytes, which settle the seventeenth bit as in the listing: what it answers, and that the code's bytes come to it.
-use Rattle.std.specs.Prelude.{◌≡◌, ℕ, zero, suc, ◌+◌, ◌-◌, ◌*◌, ◌/◌, ◌%◌, ◌^◌, ◌<◌, ◌≤◌, Bool, true, false, cond, ◌||◌, ◌⊎◌, ◌==◌, bit_or, nat_lt}
-use Rattle.std.proofs.Math.Path.{refl, ap, subst}
-use Rattle.std.proofs.Common.{sym, ◌∙◌, ap₂, subst₂, inl, inr, eq-zero-or-pos, add-zero, arith}
-use Rattle.std.proofs.Math.Bool.{or-true}
-use borrow.Author.Tests.{lt-ltb, le-ltb, ne_eqb, eqb-true, eqb-false, ltb-true, ltb-false}
-use Rattle.std.specs.Int.Bits.{or_lt, or_add_and}
-use Rattle.std.proofs.lemmas.Nat.{and_le_l, and_le_r}
+use Rattle.std.specs.Prelude.{◌≡◌, ℕ, ◌-◌, ◌*◌, ◌/◌, ◌%◌, ◌^◌, ◌<◌, Bool, true, false, cond, ◌||◌, nat_lt}
 use Rattle.edition.specs.declared.Edition.TheVariants.{Shipped}
 use Rattle.number.specs.declared.Number.{Number}
-use Rattle.number.specs.Number.{number, malformed, sign, low, complement_of, short_magnitude, halves, stored_over, short_of}
-use Rattle.number.specs.NumberLaws.{places, low_halves, magnitude_cases}
-use Rattle.number.specs.FormLaws.{malformed_short, malformed_between, malformed_negative}
-use Rattle.number.specs.Negate.{negated}
-use Rattle.number.proofs.NegateLaws.{negate_zero, negate_short}
+use Rattle.number.specs.Number.{number, malformed, sign, low, halves, stored_over}
 use Rattle.ending.specs.declared.answer.Answer.TheVariants.{Done}
 use Rattle.addition.specs.declared.short.Short.{Short}
 use Rattle.addition.specs.declared.short.Short.TheVariants.{Malformed, Stored, Exact, Beyond}
 use Rattle.addition.specs.declared.short.Halves.{Halves}
 use Rattle.addition.specs.Addition.{full_route, sum_of, second_of}
-use Rattle.addition.specs.ShortRouteLaws.{carry_of, negatives, wrapped}
-use Rattle.addition.specs.SecondHalves.{halves_of, second_halves, added_halves}
 
 -- what the short route's answer says of two numbers; one that is full goes the full route too
 unfoldable pub Says : Bool → Number → Number → Short → Type 0

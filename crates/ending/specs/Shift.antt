@@ -1,11 +1,6 @@
 -- Document 02, A4, "Normalising in one go": so many doublings at once are one shift.
-use Prim.Native.Nat.{ℕ, zero, suc, ◌+◌, ◌*◌, ◌-◌, ◌^◌, ◌/◌, ◌%◌, ◌≤◌, ◌<◌}
-use Rattle.std.specs.Prelude.{◌≡◌, refl}
-use Rattle.std.proofs.Common.{sym, ◌∙◌, le_trans, add-mul, mul_assoc, mul-le-mul_left, mul-le-mul_right, pow-suc, div-one, sub-one, pow_pos, shr-shr}
-use Rattle.std.proofs.Math.Path.{ap}
-use native.Mathlib.Omega.{arith}
-use Rattle.number.specs.LeadingZeros.{LeadingZeros, zeros_below, zeros_room}
-use Rattle.ending.specs.Ending.{Loose, loose, doubled, normal, closed, ended}
+use Prim.Native.Nat.{ℕ, zero, suc, ◌+◌, ◌*◌, ◌-◌, ◌^◌, ◌/◌, ◌%◌}
+use Rattle.ending.specs.Ending.{Loose, loose}
 
 -- the next digits, so many, as the doublings take them in: the first comes to stand highest
 unfoldable pub taken_in : ℕ → ℕ → ℕ

@@ -1,5 +1,5 @@
 -- The product of two short numbers is exact: nothing is rounded, and the full route makes of them the full number of its value.
-use Rattle.std.specs.Prelude.{◌≡◌, Bool, true, false, ◌||◌, ℕ, zero, ◌+◌, ◌*◌, ◌-◌, ◌^◌, ◌/◌, ◌%◌, ◌≤◌, ◌<◌}
+use Rattle.std.specs.Prelude.{◌≡◌, Bool, true, false, ◌||◌, ℕ, ◌+◌, ◌*◌, ◌-◌, ◌^◌, ◌/◌, ◌%◌, ◌≤◌, ◌<◌}
 use Rattle.std.proofs.Common.{sym, ◌∙◌, ap, ap₂, mul_right_comm, mul-le-mul, mul_assoc, zero-mul, mul-zero, arith, eq-eqb, ne_eqb, pow-add}
 use Rattle.std.specs.Int.Count.{count_leading_zeros}
 use Rattle.number.specs.declared.Number.{Number}
@@ -13,7 +13,7 @@ use Rattle.ending.specs.declared.answer.Answer.TheVariants.{Done}
 use Rattle.ending.specs.Ending.{loose, closed}
 use Rattle.ending.proofs.EndingLaws.{closed_stored}
 use Rattle.multiplication.specs.declared.product.Product.{Product}
-use Rattle.multiplication.specs.Multiplication.{short_product, sign_of_two, taken, restacked_product, product_of, ended_product}
+use Rattle.multiplication.specs.Multiplication.{short_product, sign_of_two, restacked_product, product_of, ended_product}
 use Rattle.multiplication.specs.Places.{rounded_at, product_at, at_some, at_scaled, fills, at_short}
 use Rattle.multiplication.specs.MultiplicationLaws.{product_short, product_beyond, ended_high}
 

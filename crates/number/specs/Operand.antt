@@ -1,16 +1,10 @@
 -- A number as the arithmetic takes it: whether it is malformed, and the parts of its re-stacked form.
-use Rattle.std.specs.Prelude.{◌≡◌, ℕ, ◌+◌, ◌-◌, ◌*◌, ◌/◌, ◌%◌, ◌^◌, ◌<◌, ◌≤◌, Bool, false, ◌⊎◌, ◌≢◌, bit_xor, refl}
-use Rattle.std.proofs.Common.{sym, ◌∙◌, ap, subst, inl, inr, mod-eq_of_lt, eq-zero-or-pos, arith, eq-eqb, ne_eqb}
-use Rattle.std.specs.Int.Bits.{xor_add_and, xor_zero_r}
-use Rattle.std.proofs.lemmas.Nat.{and_mask}
-use Rattle.std.specs.Int.Count.{count_leading_zeros}
+use Rattle.std.specs.Prelude.{◌≡◌, ℕ, ◌*◌, ◌/◌, ◌%◌, ◌^◌, ◌<◌, Bool, false}
 use Rattle.number.specs.declared.Number.{Number}
 use Rattle.number.specs.declared.operand.Magnitude.{Magnitude}
 use Rattle.number.specs.declared.operand.Operand.{Operand}
-use Rattle.number.specs.Number.{number, zeros, sign, low, short_magnitude, complement_of, malformed, full_of}
-use Rattle.number.specs.NumberLaws.{Bytes}
-use Rattle.number.specs.FormLaws.{malformed_full, malformed_short, malformed_negative}
-use Rattle.number.specs.Restack.{restacked, full_of_short}
+use Rattle.number.specs.Number.{number, zeros, sign, short_magnitude, malformed, full_of}
+use Rattle.number.specs.Restack.{restacked}
 
 abbrev pub operand : Bool → ℕ → ℕ → ℕ → Operand
 operand f s m e = record { malformed = f; sign = s; m = m; e = e }

@@ -1,15 +1,8 @@
 -- Re-stacking keeps a short number's value, over whole numbers; and what a re-stacked number is made of.
-use Rattle.std.specs.Prelude.{◌≡◌, ℕ, ◌+◌, ◌-◌, ◌*◌, ◌^◌, ◌<◌, ◌≤◌, ◌⊎◌, ℤ, pos, ◌*ℤ◌, ◌≢◌, refl}
-use Rattle.std.proofs.Common.{sym, ◌∙◌, ap, inl, inr, mul_assoc, eq-zero-or-pos, lt_of_lt_of_le, arith, pow-add}
-use Rattle.std.proofs.Math.Path.{subst⁻¹}
+use Rattle.std.specs.Prelude.{◌≡◌, ℕ, ◌*◌, ◌^◌, ◌≤◌}
 use Rattle.std.specs.Int.Count.{count_leading_zeros}
 use Rattle.number.specs.declared.Number.{Number}
-use Rattle.number.specs.Number.{sign, mantissa, full_of, short_magnitude, zeros}
-use Rattle.number.specs.NumberLaws.{Bytes, mantissa_full, sign_full, magnitude_lt}
-use Rattle.number.specs.Value.{signed, short_value, full_value}
-use Rattle.number.specs.ValueLaws.{short_value_lem, signed_times}
-use Rattle.number.specs.LeadingZeros.{top_set}
-use Rattle.number.specs.Restack.{full_of_short, restacked}
+use Rattle.number.specs.Number.{sign, mantissa}
 
 -- The full number that stands for v, 1 to 65,535: sign, mantissa, and mantissa times 2^b1 is v times 2^160.
 pub record Stands (s v : ℕ) (y : Number) : Type 0 where

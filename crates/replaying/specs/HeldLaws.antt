@@ -1,15 +1,11 @@
 -- What a step's answer says of its record. No public contract cites this file.
-use Rattle.std.specs.Prelude.{◌≡◌, ℕ, Bool, true, false, cond, not, ◌||◌, List, ◌==◌, ◌≢◌}
-use Rattle.std.proofs.Math.Path.{refl, sym, ap, subst}
-use Rattle.std.proofs.Common.{◌∙◌}
-use Rattle.std.proofs.lemmas.Bool.{false≢true}
-use borrow.Author.Tests.{eq-eqb, ne_eqb, eqb-true}
+use Rattle.std.specs.Prelude.{◌≡◌, ℕ, Bool, true, false, cond, List}
 use Rattle.literals.specs.Operate.{outcome}
-use Rattle.recording.specs.Recording.{report_in, depth_in}
+use Rattle.recording.specs.Recording.{report_in}
 use Rattle.replaying.specs.declared.steps.Held.{Held}
 use Rattle.replaying.specs.declared.steps.Held.TheVariants.{Agrees, Differs}
-use Rattle.replaying.specs.Replay.{step_of, depth_differs, top_differs}
-use Rattle.replaying.specs.ReplayLaws.{head_differs, any_differs}
+use Rattle.replaying.specs.Replay.{step_of}
+use Rattle.replaying.specs.ReplayLaws.{any_differs}
 
 -- by whether the record differs from what the step gave
 abbrev pub held_by : Bool → ℕ → Held

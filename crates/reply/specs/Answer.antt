@@ -1,6 +1,6 @@
 -- What a person sees of a line: on standard output the step's report, the depth and the top's five bytes in hex (`-` at depth 0), or `? line N` where
 -- it can't be read; on standard error what is wrong with it then.
-use Rattle.std.specs.Prelude.{ℕ, ◌+◌, Bool, true, false, List, [], ◌∷◌, ◌++◌}
+use Rattle.std.specs.Prelude.{ℕ, Bool, true, false, List, [], ◌∷◌, ◌++◌}
 use Rattle.text.specs.Ascii.{ascii}
 use Rattle.text.specs.Digits.{decimal_of}
 use Rattle.slots.specs.declared.outcome.Outcome.{Outcome}

@@ -7,7 +7,7 @@ use Rattle.std.specs.Float.Ieee.Exact.{HasValue, round_exact}
 use Rattle.number.specs.declared.Number.{Number}
 use Rattle.number.specs.declared.form.Form.TheVariants.{Full, Short}
 use Rattle.number.specs.Number.{form_of, sign, mantissa, short_magnitude}
-use Rattle.number.specs.NumberLaws.{Bytes, places, magnitude_cases, magnitude_lt}
+use Rattle.number.specs.NumberLaws.{Bytes, magnitude_cases, magnitude_lt}
 use Rattle.number.specs.FormLaws.{form_bytes}
 use Rattle.number.specs.Value.{signed, short_value, full_value}
 use Rattle.number.specs.ValueLaws.{short_value_lem, signed_zero}

@@ -11,7 +11,7 @@ use lib.Ieee.Fits.{round_is}
 use lib.Ieee.Positive.{mul_at, positive_of_value}
 use lib.Ieee.Scale.{round_same}
 use Rattle.number.specs.declared.Number.{Number}
-use Rattle.number.specs.Number.{number, sign, mantissa}
+use Rattle.number.specs.Number.{sign, mantissa}
 use Rattle.value.specs.Double.{double_of_full, double_of, double_full}
 use Rattle.value.proofs.double.Goals as goal
 

@@ -1,5 +1,5 @@
 -- `shifted` meets its contract: no step leaves a machine word, and together they are the definition's floor.
-use Rattle.std.proofs.Common.{SFits, ap, arith, nat_abs, of_z, pos, sym, to_z, to_z-of_z, w64, ℕ, ℤ, ◌*ℤ◌, ◌*◌, ◌+ℤ◌, ◌+◌, ◌<◌, ◌^◌, ◌∙◌, ◌≡◌, ◌≤◌}
+use Rattle.std.proofs.Common.{SFits, ap, arith, nat_abs, of_z, pos, sym, to_z, to_z-of_z, w64, ℕ, ℤ, ◌*ℤ◌, ◌+ℤ◌, ◌<◌, ◌^◌, ◌∙◌, ◌≡◌, ◌≤◌}
 use lib.Signed.{shr_z}
 use Rattle.addition.specs.SignedLaws.{nat_abs_twice, nat_abs_moved, nat_abs_sum, held}
 use Rattle.addition.proofs.AdditionLaws.{moved_away}

@@ -1,5 +1,5 @@
 -- `run_shipped` meets its contract: the invariant is that what is left to run from here equals the whole run.
-use Rattle.std.proofs.Common.{arith, false, length, refl, sym, ◌-◌, ◌<◌, ◌∙◌, ◌≡◌}
+use Rattle.std.proofs.Common.{arith, false, length, refl, sym, ◌<◌, ◌∙◌, ◌≡◌}
 use Rattle.edition.specs.declared.Edition.TheVariants.{Shipped}
 use Rattle.slots.specs.Reports.{over_limits}
 use Rattle.calculator.specs.RunLaws.{at_end, stops, goes_on, run_over, run_too_long, run_starts}

@@ -1,10 +1,7 @@
 -- `taken_in` meets its contract: it has the shape of `taken_in`, and the measure is the places left.
 use Rattle.std.proofs.Common.{arith, pow_mono, shl_exact, sym, ℕ, ◌%◌, ◌*◌, ◌+◌, ◌-◌, ◌/◌, ◌<◌, ◌^◌, ◌≡◌, ◌≤◌}
-use borrow.Fn.PlainCycle.{and}
 use Rattle.ending.specs.Shift.{taken_in}
 use Rattle.ending.proofs.ShiftLaws.{taken_in_none, taken_in_all, taken_in_next, taken_in_below}
-use Rattle.ending.proofs.doubling.taken_in.Reads as reads
-use Rattle.ending.proofs.doubling.taken_in.Kinds as kinds
 use Rattle.ending.proofs.doubling.+taken_in.Goals as goal
 
 -- the next digit in its place, and those behind it: no more than 32 bits hold

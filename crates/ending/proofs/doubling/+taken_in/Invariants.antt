@@ -1,8 +1,4 @@
 -- `taken_in` meets its contract: it has the shape of `taken_in`, and the measure is the places left.
-use Rattle.std.proofs.Common.{◌-◌}
-use Rattle.ending.specs.Shift.{taken_in}
-use Rattle.ending.proofs.doubling.taken_in.Reads as reads
-use Rattle.ending.proofs.doubling.taken_in.Kinds as kinds
 use Rattle.ending.proofs.doubling.+taken_in.Given as goal
 
 abbrev pub decreases-taken_in : goal.decreases-taken_in

@@ -2,7 +2,6 @@
 use Rattle.std.proofs.Common.{sym, ◌∙◌}
 use Rattle.edition.specs.declared.Edition.TheVariants.{Shipped}
 use Rattle.multiplication.specs.Multiplication.{product_of}
-use Rattle.slots.specs.Reach.{lacking}
 use Rattle.literals.proofs.WayLaws.{two_lacking}
 use Rattle.multiplying.specs.Product.{product_line}
 use Rattle.multiplying.proofs.product.multiply.Goals as goal

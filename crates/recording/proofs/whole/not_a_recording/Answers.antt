@@ -1,5 +1,5 @@
 -- `not_a_recording` meets its contract: the invariant of both loops is that what is left to test from here decides.
-use Rattle.std.proofs.Common.{arith, refl, sym, ◌-◌, ◌∙◌}
+use Rattle.std.proofs.Common.{arith, refl, sym, ◌∙◌}
 use native.Mathlib.Nat.{sub-zero}
 use Rattle.recording.specs.RecordingLaws.{found_stray, next_stray, none_stray, too_long, part_record, by_rest}
 use Rattle.recording.proofs.whole.not_a_recording.Goals as goal

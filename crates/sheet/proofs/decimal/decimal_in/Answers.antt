@@ -1,5 +1,5 @@
 -- `decimal_in` meets its contract: the invariant is that the digits from here on give the whole.
-use Rattle.std.proofs.Common.{arith, eq-eqb, ne_eqb, sym, ◌-◌, ◌∙◌}
+use Rattle.std.proofs.Common.{arith, eq-eqb, ne_eqb, sym, ◌∙◌}
 use Rattle.sheet.specs.Decimal.{decimal_in, decimal_done, decimal_none, decimal_next}
 use Rattle.sheet.proofs.decimal.decimal_in.Goals as goal
 

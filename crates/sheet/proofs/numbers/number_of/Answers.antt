@@ -1,5 +1,5 @@
 -- `number_of` meets its contract: the invariant is that what follows k steps gives the whole.
-use Rattle.std.proofs.Common.{arith, refl, sym, ◌-◌, ◌∙◌}
+use Rattle.std.proofs.Common.{arith, refl, sym, ◌∙◌}
 use Rattle.sheet.specs.Numbers.{number_done, number_short, number_digit, number_third, number_half, number_blank, number_other}
 use Rattle.sheet.proofs.numbers.number_of.Goals as goal
 

@@ -1,6 +1,6 @@
 -- `is_bare` meets its contract: the invariant is that what is left decides.
-use Rattle.std.proofs.Common.{arith, refl, sym, ◌-◌, ◌∙◌}
-use Rattle.sheet.specs.Line.{bare, bare_done, bare_below, bare_above, bare_next}
+use Rattle.std.proofs.Common.{arith, refl, sym, ◌∙◌}
+use Rattle.sheet.specs.Line.{bare_done, bare_below, bare_above, bare_next}
 use Rattle.sheet.proofs.reading.is_bare.Goals as goal
 
 pub loop-i-init : goal.loop-i-init

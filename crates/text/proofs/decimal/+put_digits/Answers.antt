@@ -1,9 +1,6 @@
 -- `put_digits` meets its contract: it has the shape of `digits_of`, and the measure is the places left.
 use Rattle.std.proofs.Common.{arith}
 use Rattle.text.specs.Digits.{digits_last, digits_one, digits_more}
-use Rattle.text.proofs.decimal.put_digits.Reads as put_digits
-use Rattle.text.proofs.decimal.put_digits.Kinds as kinds
-use Rattle.text.proofs.digit.put_digit.Reads as put_digit
 use Rattle.text.proofs.decimal.+put_digits.Goals as goal
 
 pub returns-then-left-eq0 : goal.returns-then-left-eq0

@@ -1,7 +1,4 @@
 -- `put_digits` meets its contract: it has the shape of `digits_of`, and the measure is the places left.
-use Rattle.text.proofs.decimal.put_digits.Reads as put_digits
-use Rattle.text.proofs.decimal.put_digits.Kinds as kinds
-use Rattle.text.proofs.digit.put_digit.Reads as put_digit
 use Rattle.text.proofs.decimal.+put_digits.Given as goal
 
 abbrev pub decreases-put_digits : goal.decreases-put_digits

@@ -1,5 +1,5 @@
 -- `put_each` meets its contract: the invariant is that what is left to put from here gives the whole.
-use Rattle.std.proofs.Common.{arith, refl, sym, ◌-◌, ◌∙◌}
+use Rattle.std.proofs.Common.{arith, refl, sym, ◌∙◌}
 use Rattle.text.specs.Digits.{each_done, each_next}
 use Rattle.text.proofs.hexadecimal.put_each.Goals as goal
 

@@ -1,5 +1,5 @@
 -- `put_all` meets its contract: the invariant is that what is left to put from here gives the whole.
-use Rattle.std.proofs.Common.{arith, refl, sym, ◌-◌, ◌∙◌}
+use Rattle.std.proofs.Common.{arith, refl, sym, ◌∙◌}
 use Rattle.text.specs.Put.{puts_done, puts_next}
 use Rattle.text.proofs.place.put_all.Goals as goal
 

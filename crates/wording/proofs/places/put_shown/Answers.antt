@@ -1,5 +1,5 @@
 -- `put_shown` meets its contract: the invariant is that what is left to put from here gives the whole.
-use Rattle.std.proofs.Common.{arith, refl, sym, ◌-◌, ◌∙◌}
+use Rattle.std.proofs.Common.{arith, refl, sym, ◌∙◌}
 use Rattle.wording.specs.Wording.{shown_done, shown_next}
 use Rattle.wording.proofs.places.put_shown.Goals as goal
 

@@ -1,6 +1,6 @@
 -- `begins` meets its contract: the invariant is that what is left of both decides.
-use Rattle.std.proofs.Common.{arith, refl, sym, ◌-◌, ◌∙◌}
-use Rattle.words.specs.Begins.{begins, begins_done, begins_short, begins_differs, begins_next}
+use Rattle.std.proofs.Common.{arith, refl, sym, ◌∙◌}
+use Rattle.words.specs.Begins.{begins_done, begins_short, begins_differs, begins_next}
 use Rattle.words.proofs.beginning.begins.Goals as goal
 
 pub loop-i-init : goal.loop-i-init

@@ -1,5 +1,5 @@
 -- `comment` meets its contract: the invariant is that looking from here on finds what looking from the beginning does.
-use Rattle.std.proofs.Common.{arith, refl, sym, ◌-◌, ◌∙◌}
+use Rattle.std.proofs.Common.{arith, refl, sym, ◌∙◌}
 use Rattle.words.specs.Blanks.{comment_none, comment_here, comment_later}
 use Rattle.words.proofs.blanks.comment.Goals as goal
 

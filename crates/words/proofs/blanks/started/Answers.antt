@@ -1,5 +1,5 @@
 -- `started` meets its contract: the invariant is that what starts from here is what starts from the place given.
-use Rattle.std.proofs.Common.{arith, refl, sym, ◌-◌, ◌∙◌}
+use Rattle.std.proofs.Common.{arith, refl, sym, ◌∙◌}
 use Rattle.words.specs.Blanks.{start_none, start_here, start_later, rest}
 use Rattle.words.proofs.blanks.started.Goals as goal
 
