@@ -12,6 +12,7 @@
 // It ends at the first record that differs, with what this machine gives instead; the last line, and the status, are those of trenailer replay, whose
 // --help says what a recording is.
 #![tactic(auto)]
+
 use std::io::Write;
 
 fn main(rt: HostRuntime) {

@@ -1,6 +1,7 @@
 // The calculator for programs in other languages: include/trenailer.h declares these nine functions, and the crate trenailer_c exports
 // them. A slice passes as a pointer and a length, and what a function answers beside its result goes out through a pointer.
 #![tactic(auto)]
+
 ghost use Rattle.std.specs.Prelude.{◌≡◌};
 ghost use Rattle.edition.specs.Edition.{unnamed};
 ghost use Rattle.number.specs.LeadingZeros.{LeadingZeros};
@@ -28,12 +29,7 @@ pub fn trenailer_operate(stack: &mut [u8], depth: &mut usize, literal: u8) -> u8
     calculator::operate_in_place(stack, depth, literal)
 }
 
-pub fn trenailer_operate_in(
-    edition: u8,
-    stack: &mut [u8],
-    depth: &mut usize,
-    literal: u8,
-) -> u8
+pub fn trenailer_operate_in(edition: u8, stack: &mut [u8], depth: &mut usize, literal: u8) -> u8
     ensures { operate_numbered edition stack.old depth.old literal ≡ (outcome result depth.new, stack.new) }
 {
     match edition {

@@ -1,5 +1,5 @@
 -- `put_records` meets its contract: the invariant is that what is left to put from here gives the whole.
-use Rattle.std.proofs.Common.{arith, refl, sym, ◌-◌, ◌∙◌}
+use Rattle.std.proofs.Common.{arith, refl, sym, ◌∙◌}
 use native.Mathlib.Nat.{sub-zero, add-sub_cancel_left}
 use Rattle.printing.specs.PageLaws.{no_lines, next_line}
 use Rattle.printing.proofs.records.put_records.Goals as goal
