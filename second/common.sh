@@ -37,17 +37,17 @@ build() {
     (cd "$here" && cargo build --quiet --offline --release --bin "$1" ${2:+--features "$2"}) >&2
 }
 
-# program NAME: the program target/bin/NAME, built where it is missing or older than its sources, as
-# the launcher does.
+# program NAME: the program target/bin/NAME, built where it is missing or older than its sources.
 program() {
     local file="$root/target/bin/$1" newer=
     [ ! -x "$file" ] ||
-        newer=$(find "$root/crates.txt" "$root/crates" -newer "$file" ! -path '*/must-fail/*' ! -path '*/out/*' -type f -print -quit)
+        newer=$(find "$root/crates.txt" "$root/crates" \( -name must-fail -o -name out \) -prune -o -type f -newer "$file" -print -quit)
     if [ ! -x "$file" ] || [ -n "$newer" ]; then
         need rt "it proves and builds $1"
         (cd "$root/crates/$1" && rt run </dev/null) >&2
         mkdir -p "${file%/*}"
-        cp "$root/crates/$1/out/$1" "$file"
+        cp "$root/crates/$1/out/$1" "$file.$$"
+        mv "$file.$$" "$file"
     fi
 }
 

@@ -1,4 +1,4 @@
--- Addition by sign and magnitude, which is how the code goes: a law for each way through the definitions.
+-- Addition by sign and magnitude, which is how the code goes: the words of its laws (proofs/AdditionLaws).
 use Rattle.std.specs.Prelude.{ℕ, ◌+◌, ◌-◌, ◌*◌, ◌/◌, ◌^◌, cond, ◌==◌, nat_lt}
 use Rattle.number.specs.declared.Number.{Number}
 use Rattle.number.specs.Number.{mantissa}

@@ -1,4 +1,4 @@
--- The two editions' sums beside each other: the mended one's is the shipped one's, with -65,536 as a full number where that is odd. So it is never odd.
+-- The two editions' sums beside each other: the mended one's is the shipped one's, with -65,536 as a full number where that is odd (proofs/MendedLaws).
 use Rattle.std.specs.Prelude.{cond}
 use Rattle.number.specs.declared.Number.{Number}
 use Rattle.number.specs.Number.{odd}

@@ -1,4 +1,4 @@
--- The short route by the wrapped sum, its carry and the signs.
+-- The short route by the wrapped sum, its carry and the signs: the words of its laws (proofs/ShortRouteLaws).
 use Rattle.std.specs.Prelude.{ℕ, ◌+◌, ◌%◌, ◌^◌, cond, nat_lt}
 use Rattle.number.specs.declared.Number.{Number}
 use Rattle.number.specs.Number.{sign, low}

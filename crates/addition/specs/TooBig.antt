@@ -1,4 +1,4 @@
--- Report 6 in addition, exactly: the sum is carried at exponent byte 255.
+-- Report 6 in addition, exactly: the sum is carried at exponent byte 255 (proofs/TooBigLaws).
 use Rattle.std.specs.Prelude.{◌≡◌, ◌^◌, ◌≤◌, unsigned_abs}
 use Rattle.number.specs.declared.Number.{Number}
 use Rattle.number.specs.Restack.{restacked}

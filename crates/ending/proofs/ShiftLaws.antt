@@ -1,4 +1,4 @@
--- Document 02, A4, "Normalising in one go": so many doublings at once are one shift.
+-- Normalising in one go: so many doublings at once are one shift.
 use Prim.Native.Nat.{ℕ, zero, suc, ◌+◌, ◌*◌, ◌-◌, ◌^◌, ◌/◌, ◌%◌, ◌≤◌, ◌<◌}
 use Rattle.std.specs.Prelude.{◌≡◌, refl}
 use Rattle.std.proofs.Common.{sym, ◌∙◌, le_trans, add-mul, mul_assoc, mul-le-mul_left, mul-le-mul_right, pow-suc, div-one, sub-one, pow_pos, shr-shr}

@@ -1,4 +1,4 @@
--- What the ending gives is five zero bytes or a full number: never a short one, and never odd.
+-- What the ending gives is five zero bytes or a full number: never a short one, and never odd (proofs/EndsLaws).
 use Rattle.std.specs.Prelude.{◌<◌, ◌≡◌, ◌⊎◌}
 use Rattle.number.specs.Number.{zeros}
 use Rattle.ending.specs.declared.answer.Answer.{Answer}

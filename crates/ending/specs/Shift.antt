@@ -1,4 +1,4 @@
--- Document 02, A4, "Normalising in one go": so many doublings at once are one shift.
+-- So many doublings as one shift, by the digits that they take in; that they are one stands in proofs/ShiftLaws.
 use Prim.Native.Nat.{ℕ, zero, suc, ◌+◌, ◌*◌, ◌-◌, ◌^◌, ◌/◌, ◌%◌}
 use Rattle.ending.specs.Ending.{Loose, loose}
 

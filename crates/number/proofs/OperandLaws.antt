@@ -1,4 +1,4 @@
--- A number as the arithmetic takes it: whether it is malformed, and the parts of its re-stacked form.
+-- The laws of a number as the arithmetic takes it: whether it is malformed, and the parts of its re-stacked form.
 use Rattle.std.specs.Prelude.{◌≡◌, ℕ, ◌+◌, ◌-◌, ◌*◌, ◌/◌, ◌%◌, ◌^◌, ◌<◌, ◌≤◌, false, ◌⊎◌, ◌≢◌, bit_xor, refl}
 use Rattle.std.proofs.Common.{sym, ◌∙◌, ap, subst, inl, inr, mod-eq_of_lt, eq-zero-or-pos, arith, eq-eqb, ne_eqb}
 use Rattle.std.specs.Int.Bits.{xor_add_and, xor_zero_r}

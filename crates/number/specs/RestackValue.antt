@@ -1,4 +1,4 @@
--- Re-stacking keeps a short number's value, over whole numbers; and what a re-stacked number is made of.
+-- What a re-stacked short number is made of; that it keeps the value stands in proofs/RestackValueLaws.
 use Rattle.std.specs.Prelude.{◌≡◌, ℕ, ◌*◌, ◌^◌, ◌≤◌}
 use Rattle.std.specs.Int.Count.{count_leading_zeros}
 use Rattle.number.specs.declared.Number.{Number}

@@ -1,4 +1,4 @@
--- The records that a replay speaks of are there: as many as agree, or the one that differs.
+-- How many records a replay speaks of: as many as agree, or those up to the one that differs. That they are there stands in proofs/BoundsLaws.
 use Rattle.std.specs.Prelude.{ℕ, ◌+◌}
 use Rattle.replaying.specs.declared.answer.Verdict.{Verdict}
 use Rattle.replaying.specs.declared.answer.Verdict.TheVariants.{Agree, Differ, Refused}

@@ -1,4 +1,4 @@
--- What a step's answer says of its record. No public contract cites this file.
+-- What a step's answer says of its record; the laws are in proofs/HeldLaws. No public contract cites this file.
 use Rattle.std.specs.Prelude.{◌≡◌, ℕ, Bool, true, false, cond, List}
 use Rattle.literals.specs.Operate.{outcome}
 use Rattle.recording.specs.Recording.{report_in}

@@ -1,4 +1,4 @@
--- The replay, a law a turn: there is no record left, the next one differs, or it agrees.
+-- The words of the replay's laws (proofs/ReplayLaws): whether and where a record differs, and the rest of a replay.
 use Rattle.std.specs.Prelude.{ℕ, ◌-◌, ◌/◌, Bool, cond, ◌||◌, List, length, drop}
 use Rattle.replaying.specs.declared.answer.Replayed.{Replayed}
 use Rattle.replaying.specs.declared.answer.Field.{Field}

@@ -1,4 +1,4 @@
--- A push, a law a way out: what was found there, and the case of the definition that this is.
+-- What a push with room finds, of which its laws speak (proofs/PushLaws).
 use Rattle.std.specs.Prelude.{◌≡◌, ℕ, ◌+◌, ◌-◌, ◌*◌, ◌%◌, ◌^◌, ◌≤◌, false, List, length}
 use Rattle.slots.specs.Reports.{over_limits}
 
