@@ -1,12 +1,12 @@
 -- Literals 15 and 3 by one code: which route a sum takes. No public contract cites this file.
 use Rattle.std.specs.Prelude.{◌≡◌, ℕ, ◌<◌, Bool, true, false, not, ◌⊎◌, ◌==◌, ◌≢◌, refl}
+use Rattle.ending.specs.Ending.{Answer}
 use Rattle.std.proofs.Common.{sym, ◌∙◌, ap, subst₂, inl, inr, eq-zero-or-pos, arith}
 use Rattle.edition.specs.declared.Edition.{Edition}
 use Rattle.edition.specs.declared.Edition.TheVariants.{Shipped}
 use Rattle.number.specs.declared.Number.{Number}
 use Rattle.number.specs.Number.{number}
 use Rattle.number.proofs.NegateLaws.{negate_full}
-use Rattle.ending.specs.declared.answer.Answer.{Answer}
 use Rattle.addition.specs.declared.short.Short.{Short}
 use Rattle.addition.specs.declared.short.Short.TheVariants.{Beyond}
 use Rattle.addition.specs.Addition.{full_route, sum_of, difference_of, second_of}

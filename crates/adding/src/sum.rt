@@ -9,7 +9,6 @@ ghost use Rattle.adding.specs.Sum.{flips, literal_of};
 
 use crate::term::term;
 use addition::Short;
-use ending::Answer;
 use literals::table;
 use number::Number;
 use operands::store;
@@ -69,7 +68,7 @@ fn sum(stack: &mut [u8], depth: &mut usize, flip: u32, taken: usize, left: usize
             0
         }
         Short::Exact(word) => {
-            let answer = Answer::Done(Number { b1: 145, word });
+            let answer = Some(Number { b1: 145, word });
             store(stack, depth, old, answer, taken, left)
         }
         Short::Beyond => full_route(stack, depth, old, flip, taken, left),

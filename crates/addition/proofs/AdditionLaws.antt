@@ -1,5 +1,5 @@
 -- Addition by sign and magnitude, which is how the code goes: a law for each way through the definitions.
-use Rattle.std.specs.Prelude.{◌≡◌, ℕ, suc, ◌+◌, ◌-◌, ◌*◌, ◌/◌, ◌^◌, ◌<◌, ◌≤◌, Bool, true, false, cond, ◌⊎◌, ℤ, pos, ◌+ℤ◌, ◌==◌, ◌≢◌, nat_lt, unsigned_abs, refl}
+use Rattle.std.specs.Prelude.{◌≡◌, ℕ, suc, ◌+◌, ◌-◌, ◌*◌, ◌/◌, ◌^◌, ◌<◌, ◌≤◌, Bool, true, false, cond, ◌⊎◌, ℤ, pos, ◌+ℤ◌, ◌==◌, ◌≢◌, nat_lt, unsigned_abs, refl, Some, None}
 use Rattle.std.proofs.Common.{sym, ◌∙◌, ap, ap₂, inl, inr, le-leb, lt-ltb, le-ltb, eq-eqb, ne_eqb, eqb-true, ltb-true, eq-zero-or-pos, div-lt_iff_lt-mul, arith, pow_pos, pow-add}
 use Rattle.std.proofs.lemmas.Bool.{lt-leb, eqb-false}
 use Rattle.std.proofs.Math.Nat.{max-eq_left, two-pow-succ, div-eq_of_lt, div-div-eq-div-mul}
@@ -8,7 +8,6 @@ use Rattle.number.specs.declared.Number.{Number}
 use Rattle.number.specs.Number.{sign, mantissa, full_of}
 use Rattle.number.specs.Value.{signed}
 use Rattle.number.specs.ValueLaws.{signed_zero}
-use Rattle.ending.specs.declared.answer.Answer.TheVariants.{Done, TooBig}
 use Rattle.ending.specs.Ending.{loose, ended}
 use Rattle.ending.proofs.EndingLaws.{ended_zero, ended_set, closed_stored}
 use Rattle.addition.specs.Addition.{signed_mantissa, aligned, ended_whole, carried, ended_sum, signed_sum, aligned_sum}
@@ -91,14 +90,14 @@ beyond : (z : ℤ) (e : ℕ) → 2 ^ 32 ≤ unsigned_abs z → ended_sum z e ≡
 unfolding ended_sum
 beyond z e h = simp (le-leb _ _ h)
 
-pub carried_255 : (z : ℤ) (e : ℕ) → 2 ^ 32 ≤ unsigned_abs z → e ≡ 255 → ended_sum z e ≡ TooBig
+pub carried_255 : (z : ℤ) (e : ℕ) → 2 ^ 32 ≤ unsigned_abs z → e ≡ 255 → ended_sum z e ≡ None
 carried_255 z e h k = beyond z e h ∙ simp (eq-eqb (e + 1) 256 (omega arith))
 
 module _ (s m e : ℕ) (h : s < 2) where
   pub sum_ended : m < 2 ^ 32 → ended_sum (signed s m) e ≡ ended s m (e + 256) 0
   sum_ended g = within (signed s m) e (rw nat_abs_signed g) ∙ ended_signed s m e h
 
-  pub sum_too_big : 2 ^ 32 ≤ m → e ≡ 255 → ended_sum (signed s m) e ≡ TooBig
+  pub sum_too_big : 2 ^ 32 ≤ m → e ≡ 255 → ended_sum (signed s m) e ≡ None
   sum_too_big g k = carried_255 (signed s m) e (rw nat_abs_signed g) k
 
   pub sum_carried : 2 ^ 32 ≤ m → (e ≢ 255) → ended_sum (signed s m) e ≡ ended s ((m + 1 - s) / 2) (e + 1 + 256) 0
@@ -108,13 +107,13 @@ module _ (s m e : ℕ) (h : s < 2) where
       ∙ ended_signed s ((m + 1 - s) / 2) (e + 1) h
 
   -- half of it has its top bit set
-  pub sum_stored : 2 ^ 32 ≤ m → m + 1 < 2 ^ 33 → e < 255 → ended_sum (signed s m) e ≡ Done (full_of s (e + 1) ((m + 1 - s) / 2))
+  pub sum_stored : 2 ^ 32 ≤ m → m + 1 < 2 ^ 33 → e < 255 → ended_sum (signed s m) e ≡ Some (full_of s (e + 1) ((m + 1 - s) / 2))
   sum_stored g l k =
       let t = (m + 1 - s) / 2 in
       sum_carried g (omega arith)
       ∙ ended_set s t (e + 1 + 256) 0 (omega arith)
       ∙ closed_stored s (loose t (e + 1 + 256) 0) (omega arith) (omega arith)
-      ∙ ap₂ (λ (a b : ℕ). Done (full_of s a b)) (omega arith) (omega arith)
+      ∙ ap₂ (λ (a b : ℕ). Some (full_of s a b)) (omega arith) (omega arith)
 
 -- with the larger exponent byte first
 pub first_larger : (x y : ℤ) (e f : ℕ) → f ≤ e → signed_sum x e y f ≡ ended_sum (x +ℤ aligned (e - f) y) e

@@ -4,8 +4,7 @@ use Rattle.std.proofs.Common.{sym, ◌∙◌, ap, ap₂, subst, inl, inr, eq-zer
 use Rattle.std.proofs.Math.Nat.{max_comm, div-div-eq-div-mul, add-div_right}
 use Rattle.std.proofs.Math.IntN.{+ℤ_comm}
 use Rattle.std.specs.Int.Signed.{shr_z}
-use Rattle.ending.specs.declared.answer.Answer.{Answer}
-use Rattle.ending.specs.Ending.{ended}
+use Rattle.ending.specs.Ending.{ended, Answer}
 use Rattle.ending.proofs.EndingLaws.{ended_zero}
 use Rattle.addition.specs.Addition.{negative, aligned, ended_sum, signed_sum}
 use Rattle.addition.specs.SignedLaws.{nat_abs_signed, signed_parts, negative_lt, floor_signed}

@@ -1,5 +1,6 @@
 -- The two editions' sums beside each other: the mended one's is the shipped one's, with -65,536 as a full number where that is odd. So it is never odd.
-use Rattle.std.specs.Prelude.{◌≡◌, ℕ, suc, ◌+◌, ◌*◌, ◌/◌, ◌%◌, ◌^◌, ◌<◌, ◌≤◌, Bool, true, false, cond, ℤ, pos, negsuc, ◌+ℤ◌, ◌==◌, nat_le, unsigned_abs, refl}
+use Rattle.std.specs.Prelude.{◌≡◌, ℕ, suc, ◌+◌, ◌*◌, ◌/◌, ◌%◌, ◌^◌, ◌<◌, ◌≤◌, Bool, true, false, cond, ℤ, pos, negsuc, ◌+ℤ◌, ◌==◌, nat_le, unsigned_abs, refl, Some, None}
+use Rattle.ending.specs.Ending.{Answer}
 use Rattle.std.proofs.Common.{sym, ◌∙◌, ap, arith, leb-true, leb-false, eqb-true}
 use Rattle.std.proofs.Math.Bool.{and-eq-true_iff}
 use Rattle.std.specs.Int.Signed.{shr_z}
@@ -9,8 +10,6 @@ use Rattle.number.specs.Number.{odd, b5, complement_of, halves, stored_over}
 use Rattle.number.specs.NumberLaws.{upper, over_halves}
 use Rattle.number.specs.OddLaws.{odd_full, odd_positive, odd_word, odd_other, odd_ended}
 use Rattle.number.specs.Negate.{negated}
-use Rattle.ending.specs.declared.answer.Answer.{Answer}
-use Rattle.ending.specs.declared.answer.Answer.TheVariants.{Done, TooBig}
 use Rattle.ending.specs.Ends.{ZeroOrFull}
 use Rattle.ending.proofs.EndsLaws.{ended_zero_or_full}
 use Rattle.addition.specs.Addition.{stored_short, short_sum, minus65536, written_short, ended_whole, ended_sum, aligned_sum, full_route, short_route, sum_of, difference_of}
@@ -31,8 +30,8 @@ mended_never n = go (odd n) refl
     go false h = h
 
 pub ended_mended : (a : Answer) → ZeroOrFull a → a ≡ mended_answer a
-ended_mended (Done n) h = ap Done (sym (mended_same n (odd_ended n h)))
-ended_mended TooBig h = refl
+ended_mended (Some n) h = ap Some (sym (mended_same n (odd_ended n h)))
+ended_mended None h = refl
 
 -- ---- a sum that is stored short
 -- one of zero or more has the sign byte 0; of one below it, -65,536 alone has the low half 0
@@ -65,7 +64,7 @@ sum_zero_or_full : (z : ℤ) (e : ℕ) → ZeroOrFull (ended_sum z e)
 unfolding ended_sum
 sum_zero_or_full z e = go (nat_le (2 ^ 32) (unsigned_abs z)) (e + 1 == 256)
   where
-    go : (a b : Bool) → ZeroOrFull (cond a (cond b TooBig (ended_whole (shr_z (z +ℤ pos 1) 2) (e + 1))) (ended_whole z e))
+    go : (a b : Bool) → ZeroOrFull (cond a (cond b None (ended_whole (shr_z (z +ℤ pos 1) 2) (e + 1))) (ended_whole z e))
     go true true = tt
     go true false = ended_zero_or_full _ _ _ _
     go false b = ended_zero_or_full _ _ _ _
@@ -80,9 +79,9 @@ unfolding sum_of short_route
 sum_mended x y = go (x.b1 == 0) (y.b1 == 0) (stored_short (short_sum x y)) refl refl
   where
     go : (a b c : Bool) → (x.b1 == 0) ≡ a → stored_short (short_sum x y) ≡ c
-        → cond a (cond b (cond c (Done (written_short Mended x (short_sum x y))) (full_route x y)) (full_route x y)) (full_route x y)
-        ≡ mended_answer (cond a (cond b (cond c (Done (written_short Shipped x (short_sum x y))) (full_route x y)) (full_route x y)) (full_route x y))
-    go true true true p q = ap Done (written_mended x (eqb-true _ _ p) (short_sum x y) q)
+        → cond a (cond b (cond c (Some (written_short Mended x (short_sum x y))) (full_route x y)) (full_route x y)) (full_route x y)
+        ≡ mended_answer (cond a (cond b (cond c (Some (written_short Shipped x (short_sum x y))) (full_route x y)) (full_route x y)) (full_route x y))
+    go true true true p q = ap Some (written_mended x (eqb-true _ _ p) (short_sum x y) q)
     go true true false p q = full_mended x y
     go true false c p q = full_mended x y
     go false b c p q = full_mended x y

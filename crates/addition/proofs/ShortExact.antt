@@ -1,5 +1,5 @@
 -- A sum of two short numbers that is beyond them is exact: it has seventeen digits, and the full route makes of them the full number that has all of these.
-use Rattle.std.specs.Prelude.{◌≡◌, ℕ, ◌+◌, ◌-◌, ◌*◌, ◌/◌, ◌%◌, ◌^◌, ◌<◌, ◌≤◌, max, Bool, true, false, ℤ, ◌+ℤ◌, nat_le, refl}
+use Rattle.std.specs.Prelude.{◌≡◌, ℕ, ◌+◌, ◌-◌, ◌*◌, ◌/◌, ◌%◌, ◌^◌, ◌<◌, ◌≤◌, max, Bool, true, false, ℤ, ◌+ℤ◌, nat_le, refl, Some}
 use Rattle.std.proofs.Common.{sym, ◌∙◌, ap, ap₂, subst, mul_assoc, mul_right_comm, arith, eq-eqb, ne_eqb, leb-true, leb-false, pow_pos, pow-add}
 use Rattle.std.specs.Int.Count.{count_leading_zeros}
 use Rattle.std.proofs.Math.Pow.{high}
@@ -11,7 +11,6 @@ use Rattle.number.specs.LeadingZeros.{places_are, zeros_of}
 use Rattle.number.specs.Restack.{full_of_short}
 use Rattle.number.proofs.RestackLaws.{restack_some}
 use Rattle.number.proofs.RestackValueLaws.{full_of_short_lem}
-use Rattle.ending.specs.declared.answer.Answer.TheVariants.{Done}
 use Rattle.addition.specs.Addition.{signed_mantissa, aligned, ended_sum, aligned_sum, full_route}
 use Rattle.addition.specs.SignedLaws.{same_sign}
 use Rattle.addition.proofs.AdditionLaws.{moved_within, sum_stored}
@@ -45,7 +44,7 @@ at_144 s v h p l =
     ∙ ap (signed s) (unmoved_digits s v k h))
 
 beyond_exact : (s v w : ℕ) → s < 2 → 0 < v → v < 2 ^ 16 → 0 < w → w < 2 ^ 16 → 2 ^ 16 ≤ v + w
-    → aligned_sum (full_of_short s v) (full_of_short s w) ≡ Done (full_of s 145 ((v + w) * 2 ^ 15))
+    → aligned_sum (full_of_short s v) (full_of_short s w) ≡ Some (full_of s 145 ((v + w) * 2 ^ 15))
 unfolding aligned_sum full_of_short
 beyond_exact s v w h p l q m g =
     let x = full_of_short s v in
@@ -55,7 +54,7 @@ beyond_exact s v w h p l q m g =
     ∙ ap₂ (λ (i j : ℤ). ended_sum (i +ℤ j) 144) (at_144 s v h p l) (at_144 s w h q m)
     ∙ ap (λ (i : ℤ). ended_sum i 144) (same_sign s (v * 2 ^ 16) (w * 2 ^ 16))
     ∙ sum_stored s (v * 2 ^ 16 + w * 2 ^ 16) 144 h (omega arith) (omega arith) (omega arith)
-    ∙ ap (λ (n : ℕ). Done (full_of s 145 n)) half
+    ∙ ap (λ (n : ℕ). Some (full_of s 145 n)) half
   where
     -- one of the two has sixteen digits
     longest : (t : Bool) → nat_le (2 ^ 15) v ≡ t → max (160 - count_leading_zeros 32 v) (160 - count_leading_zeros 32 w) ≡ 144
@@ -64,7 +63,7 @@ beyond_exact s v w h p l q m g =
 
 -- of two numbers whose b1 is 0, neither of which counts as zero
 short_exact : (x y : Number) (v w : ℕ) → x.b1 ≡ 0 → y.b1 ≡ 0 → sign x < 2 → sign y ≡ sign x → short_magnitude x ≡ v → short_magnitude y ≡ w → 0 < v → 0 < w → 2 ^ 16 ≤ v + w
-    → full_route x y ≡ Done (full_of (sign x) 145 ((v + w) * 2 ^ 15))
+    → full_route x y ≡ Some (full_of (sign x) 145 ((v + w) * 2 ^ 15))
 unfolding full_route
 short_exact x y v w f g h e i j p q l =
     ap₂ aligned_sum (restack_some x f (omega arith) ∙ ap (full_of_short (sign x)) i) (restack_some y g (omega arith) ∙ ap₂ full_of_short e j)
@@ -81,16 +80,16 @@ complements a b w p q l e = (omega arith, omega arith, omega arith)
 
 -- by their low halves, which come to w, and to 65,536 more where there is no sign
 module _ (x y : Number) (f : x.b1 ≡ 0) (g : y.b1 ≡ 0) (p : 0 < low x) (q : 0 < low y) (w : ℕ) (l : w < 2 ^ 16) where
-  pub positive_exact : sign x ≡ 0 → sign y ≡ 0 → low x + low y ≡ w + 2 ^ 16 → full_route x y ≡ Done (number 145 (w * 2 ^ 15))
+  pub positive_exact : sign x ≡ 0 → sign y ≡ 0 → low x + low y ≡ w + 2 ^ 16 → full_route x y ≡ Some (number 145 (w * 2 ^ 15))
   positive_exact s t e =
       short_exact x y (low x) (low y) f g (omega arith) (t ∙ sym s) (simp (eq-eqb (sign x) 0 s)) (simp (eq-eqb (sign y) 0 t)) p q (omega arith)
-      ∙ ap₂ (λ (i n : ℕ). Done (full_of i 145 (n * 2 ^ 15))) s e
-      ∙ ap Done (word_positive w l)
+      ∙ ap₂ (λ (i n : ℕ). Some (full_of i 145 (n * 2 ^ 15))) s e
+      ∙ ap Some (word_positive w l)
 
-  pub negative_exact : sign x ≡ 1 → sign y ≡ 1 → low x + low y ≡ w → full_route x y ≡ Done (number 145 ((2 ^ 32 - w * 2 ^ 15) % 2 ^ 32))
+  pub negative_exact : sign x ≡ 1 → sign y ≡ 1 → low x + low y ≡ w → full_route x y ≡ Some (number 145 ((2 ^ 32 - w * 2 ^ 15) % 2 ^ 32))
   negative_exact s t e =
       let c = complements (low x) (low y) w p q l e in
       short_exact x y (complement_of (low x)) (complement_of (low y)) f g (omega arith) (t ∙ sym s) (simp (ne_eqb (sign x) 0 (omega arith))) (simp (ne_eqb (sign y) 0 (omega arith)))
       c.1 c.2 (subst (λ (n : ℕ). 2 ^ 16 ≤ n) (sym c.0) (omega arith))
-      ∙ ap₂ (λ (i n : ℕ). Done (full_of i 145 (n * 2 ^ 15))) s c.0
-      ∙ ap Done (word_negative w (omega arith) l)
+      ∙ ap₂ (λ (i n : ℕ). Some (full_of i 145 (n * 2 ^ 15))) s c.0
+      ∙ ap Some (word_negative w (omega arith) l)

@@ -1,5 +1,5 @@
 -- The short route by the wrapped sum, its carry and the signs.
-use Rattle.std.specs.Prelude.{◌≡◌, ℕ, suc, ◌+◌, ◌-◌, ◌*◌, ◌%◌, ◌^◌, ◌<◌, ◌≤◌, Bool, true, false, cond, ℤ, pos, negsuc, ◌+ℤ◌, ◌-ℤ◌, neg_ℤ, ◌≢◌, nat_lt, refl}
+use Rattle.std.specs.Prelude.{◌≡◌, ℕ, suc, ◌+◌, ◌-◌, ◌*◌, ◌%◌, ◌^◌, ◌<◌, ◌≤◌, Bool, true, false, cond, ℤ, pos, negsuc, ◌+ℤ◌, ◌-ℤ◌, neg_ℤ, ◌≢◌, nat_lt, refl, Some}
 use Rattle.std.proofs.Common.{sym, ◌∙◌}
 use Rattle.std.proofs.Math.Path.{ap}
 use borrow.Author.Tests.{lt-ltb, le-leb, lt-leb, eq-eqb, ne_eqb, ltb-true, ltb-false}
@@ -10,7 +10,6 @@ use Rattle.edition.specs.declared.Edition.TheVariants.{Shipped, Mended}
 use Rattle.number.specs.declared.Number.{Number}
 use Rattle.number.specs.Number.{sign, low, complement_of, halves, stored_over}
 use Rattle.number.specs.Value.{short_value}
-use Rattle.ending.specs.declared.answer.Answer.TheVariants.{Done}
 use Rattle.addition.specs.Addition.{stored_short, short_sum, written_short, full_route, short_route, sum_of}
 use Rattle.addition.specs.SignedLaws.{same_sign, above, below}
 use Rattle.addition.specs.ShortRouteLaws.{carry_of, negatives, wrapped}
@@ -104,9 +103,9 @@ module _ (x y : Number) where
 
 module _ (ed : Edition) (x y : Number) where
   -- the short route, by what the sum comes to
-  routed : {z : ℤ} → short_sum x y ≡ z → short_route ed x y ≡ cond (stored_short z) (Done (written_short ed x z)) (full_route x y)
+  routed : {z : ℤ} → short_sum x y ≡ z → short_route ed x y ≡ cond (stored_short z) (Some (written_short ed x z)) (full_route x y)
   unfolding short_route
-  routed e = ap (λ (w : ℤ). cond (stored_short w) (Done (written_short ed x w)) (full_route x y)) e
+  routed e = ap (λ (w : ℤ). cond (stored_short w) (Some (written_short ed x w)) (full_route x y)) e
 
   -- ---- how a sum goes
   pub first_full : (x.b1 ≢ 0) → sum_of ed x y ≡ full_route x y
@@ -123,7 +122,7 @@ module _ (ed : Edition) (x y : Number) where
       unfolding sum_of
       short = simp (eq-eqb x.b1 0 f, eq-eqb y.b1 0 g)
 
-      pub short_stored_lem : stored_short (short_sum x y) ≡ true → sum_of ed x y ≡ Done (written_short ed x (short_sum x y))
+      pub short_stored_lem : stored_short (short_sum x y) ≡ true → sum_of ed x y ≡ Some (written_short ed x (short_sum x y))
       unfolding short_route
       short_stored_lem h = short ∙ simp h
 
@@ -131,23 +130,23 @@ module _ (ed : Edition) (x y : Number) where
       unfolding short_route
       short_beyond h = short ∙ simp h
 
-      pub sum_positive : carry_of (wrapped x y) (low x) ≡ negatives x y → sum_of ed x y ≡ Done (stored_over x (halves 0 (wrapped x y)))
+      pub sum_positive : carry_of (wrapped x y) (low x) ≡ negatives x y → sum_of ed x y ≡ Some (stored_over x (halves 0 (wrapped x y)))
       sum_positive h =
-          short ∙ routed (sum_0 x y h) ∙ simp (le-leb (wrapped x y) 65535 (omega arith)) (ap Done (written_0 x ed (wrapped x y)))
+          short ∙ routed (sum_0 x y h) ∙ simp (le-leb (wrapped x y) 65535 (omega arith)) (ap Some (written_0 x ed (wrapped x y)))
 
-      sum_written : carry_of (wrapped x y) (low x) + 1 ≡ negatives x y → sum_of ed x y ≡ Done (written_short ed x (negsuc (65535 - wrapped x y)))
+      sum_written : carry_of (wrapped x y) (low x) + 1 ≡ negatives x y → sum_of ed x y ≡ Some (written_short ed x (negsuc (65535 - wrapped x y)))
       sum_written h = short ∙ routed (sum_1 x y h) ∙ simp (le-leb (65535 - wrapped x y) 65535 (omega arith))
 
-      pub sum_negative : 0 < wrapped x y → carry_of (wrapped x y) (low x) + 1 ≡ negatives x y → sum_of ed x y ≡ Done (stored_over x (halves 255 (wrapped x y)))
-      sum_negative p h = sum_written h ∙ ap Done (written_1 x ed (wrapped x y) p (omega arith))
+      pub sum_negative : 0 < wrapped x y → carry_of (wrapped x y) (low x) + 1 ≡ negatives x y → sum_of ed x y ≡ Some (stored_over x (halves 255 (wrapped x y)))
+      sum_negative p h = sum_written h ∙ ap Some (written_1 x ed (wrapped x y) p (omega arith))
 
       -- -65,536, in either edition's way
-      pub sum_least : wrapped x y ≡ 0 → carry_of (wrapped x y) (low x) + 1 ≡ negatives x y → sum_of ed x y ≡ Done (written_short ed x (negsuc 65535))
-      sum_least z h = sum_written h ∙ ap (λ (w : ℕ). Done (written_short ed x (negsuc (65535 - w)))) z
+      pub sum_least : wrapped x y ≡ 0 → carry_of (wrapped x y) (low x) + 1 ≡ negatives x y → sum_of ed x y ≡ Some (written_short ed x (negsuc 65535))
+      sum_least z h = sum_written h ∙ ap (λ (w : ℕ). Some (written_short ed x (negsuc (65535 - w)))) z
 
       pub sum_beyond : (carry_of (wrapped x y) (low x) ≢ negatives x y) → (carry_of (wrapped x y) (low x) + 1 ≢ negatives x y) → sum_of ed x y ≡ full_route x y
       sum_beyond h k = short_beyond (sum_2 x y h k)
 
 -- the shipped edition writes -65,536 as any other
-pub sum_shipped : (x y : Number) → x.b1 ≡ 0 → y.b1 ≡ 0 → carry_of (wrapped x y) (low x) + 1 ≡ negatives x y → sum_of Shipped x y ≡ Done (stored_over x (halves 255 (wrapped x y)))
-sum_shipped x y f g h = sum_written Shipped x y f g h ∙ ap Done (over_again x (wrapped x y) (omega arith))
+pub sum_shipped : (x y : Number) → x.b1 ≡ 0 → y.b1 ≡ 0 → carry_of (wrapped x y) (low x) + 1 ≡ negatives x y → sum_of Shipped x y ≡ Some (stored_over x (halves 255 (wrapped x y)))
+sum_shipped x y f g h = sum_written Shipped x y f g h ∙ ap Some (over_again x (wrapped x y) (omega arith))

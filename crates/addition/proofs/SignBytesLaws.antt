@@ -1,5 +1,5 @@
 -- The short route by its sign bytes, which settle the seventeenth bit as in the listing: what it answers, and that the code's bytes come to it.
-use Rattle.std.specs.Prelude.{◌≡◌, ℕ, zero, suc, ◌+◌, ◌-◌, ◌*◌, ◌/◌, ◌%◌, ◌^◌, ◌<◌, ◌≤◌, Bool, true, false, cond, ◌||◌, ◌⊎◌, ◌==◌, bit_or, nat_lt}
+use Rattle.std.specs.Prelude.{◌≡◌, ℕ, zero, suc, ◌+◌, ◌-◌, ◌*◌, ◌/◌, ◌%◌, ◌^◌, ◌<◌, ◌≤◌, Bool, true, false, cond, ◌||◌, ◌⊎◌, ◌==◌, bit_or, nat_lt, Some}
 use Rattle.std.proofs.Math.Path.{refl, ap, subst}
 use Rattle.std.proofs.Common.{sym, ◌∙◌, ap₂, subst₂, inl, inr, eq-zero-or-pos, add-zero, arith}
 use Rattle.std.proofs.Math.Bool.{or-true}
@@ -13,7 +13,6 @@ use Rattle.number.specs.NumberLaws.{places, low_halves, magnitude_cases}
 use Rattle.number.specs.FormLaws.{malformed_short, malformed_between, malformed_negative}
 use Rattle.number.specs.Negate.{negated}
 use Rattle.number.proofs.NegateLaws.{negate_zero, negate_short}
-use Rattle.ending.specs.declared.answer.Answer.TheVariants.{Done}
 use Rattle.addition.specs.declared.short.Short.TheVariants.{Malformed, Stored, Exact, Beyond}
 use Rattle.addition.specs.declared.short.Halves.{Halves}
 use Rattle.addition.specs.Addition.{full_route, sum_of, second_of}
@@ -108,29 +107,29 @@ module _ (x y : Number) (b c k : ℕ) (p : b ≡ 255 * sign x) (q : c ≡ 255 * 
       go false = omega arith
 
   module _ (f : x.b1 ≡ 0) (g : y.b1 ≡ 0) where
-    pub bytes_stored : (k + 1) % 256 < 2 → sum_of Shipped x y ≡ Done (stored_over x (halves k (wrapped x y)))
+    pub bytes_stored : (k + 1) % 256 < 2 → sum_of Shipped x y ≡ Some (stored_over x (halves k (wrapped x y)))
     bytes_stored e = go (k == 0) refl
       where
-        go : (t : Bool) → (k == 0) ≡ t → sum_of Shipped x y ≡ Done (stored_over x (halves k (wrapped x y)))
+        go : (t : Bool) → (k == 0) ≡ t → sum_of Shipped x y ≡ Some (stored_over x (halves k (wrapped x y)))
         go true i =
             let none = eqb-true k 0 i in
-            sum_positive Shipped x y f g (omega (arith, ways)) ∙ ap (λ (n : ℕ). Done (stored_over x (halves n (wrapped x y)))) (sym none)
+            sum_positive Shipped x y f g (omega (arith, ways)) ∙ ap (λ (n : ℕ). Some (stored_over x (halves n (wrapped x y)))) (sym none)
         go false i =
             let all : k ≡ 255 = omega (arith, eqb-false k 0 i) in
-            sum_shipped x y f g (omega (arith, ways)) ∙ ap (λ (n : ℕ). Done (stored_over x (halves n (wrapped x y)))) (sym all)
+            sum_shipped x y f g (omega (arith, ways)) ∙ ap (λ (n : ℕ). Some (stored_over x (halves n (wrapped x y)))) (sym all)
 
     module _ (e : 2 ≤ (k + 1) % 256) where
       pub bytes_beyond : sum_of Shipped x y ≡ full_route x y
       bytes_beyond = sum_beyond Shipped x y f g (λ i. omega (arith, ways)) (λ i. omega (arith, ways))
 
       -- both have one sign, and neither counts as zero
-      pub bytes_exact : 0 < low x → 0 < low y → sum_of Shipped x y ≡ Done (number 145 (seventeen_of k (wrapped x y)))
+      pub bytes_exact : 0 < low x → 0 < low y → sum_of Shipped x y ≡ Some (number 145 (seventeen_of k (wrapped x y)))
       bytes_exact i j = bytes_beyond ∙ go (alike (negatives x y) carry k (omega arith) ways (h ∙ ap (λ (n : ℕ). (n % 256 + carry) % 256) {x = b + c} {y = 255 * negatives x y} (omega arith)) e)
         where
           carry : ℕ
           carry = carry_of (wrapped x y) (low x)
 
-          go : Alike (negatives x y) carry k → full_route x y ≡ Done (number 145 (seventeen_of k (wrapped x y)))
+          go : Alike (negatives x y) carry k → full_route x y ≡ Some (number 145 (seventeen_of k (wrapped x y)))
           go (inl a) =
               positive_exact x y f g i j (wrapped x y) (omega arith) (omega arith) (omega arith) (total x y ∙ ap (λ (n : ℕ). wrapped x y + 2 ^ 16 * n) a.1)
               ∙ sym (simp (lt-ltb k 128 (omega arith)))
@@ -166,7 +165,7 @@ module _ (less : Bool) (x y : ℕ) (l : x < 2 ^ 32) (m : y < 2 ^ 32) (f : Formed
   answer_stored h = (
     f.both,
     bytes_stored first other _ _ sum.byte f.first split.bytes (omega arith) split.sign_below settled refl split.first h
-        ∙ ap (λ (w : ℕ). Done (stored_over first (halves sum.byte w))) lows,
+        ∙ ap (λ (w : ℕ). Some (stored_over first (halves sum.byte w))) lows,
   )
 
   pub answer_beyond : 2 ≤ (sum.byte + 1) % 256 → Says less first (number 0 y) Beyond
@@ -178,7 +177,7 @@ module _ (less : Bool) (x y : ℕ) (l : x < 2 ^ 32) (m : y < 2 ^ 32) (f : Formed
   answer_exact h p q = (
     f.both,
     bytes_exact first other _ _ sum.byte f.first split.bytes (omega arith) split.sign_below settled refl split.first h p (second_some less)
-        ∙ ap (λ (w : ℕ). Done (number 145 (seventeen_of sum.byte w))) lows,
+        ∙ ap (λ (w : ℕ). Some (number 145 (seventeen_of sum.byte w))) lows,
   )
     where
       -- nor is the second one when it is negated

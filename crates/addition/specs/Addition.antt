@@ -1,5 +1,5 @@
 -- Document 01, "Addition and subtraction (003)", and document 02, A2, "The fifth byte of a short sum". Which edition it is decides how -65,536 is written alone.
-use Rattle.std.specs.Prelude.{ℕ, ◌+◌, ◌-◌, ◌^◌, max, Bool, true, false, cond, ◌&&◌, ℤ, pos, negsuc, ◌+ℤ◌, neg_ℤ, ◌==◌, int_le, nat_le, nat_lt, unsigned_abs}
+use Rattle.std.specs.Prelude.{ℕ, ◌+◌, ◌-◌, ◌^◌, max, Bool, true, false, cond, ◌&&◌, ℤ, pos, negsuc, ◌+ℤ◌, neg_ℤ, ◌==◌, int_le, nat_le, nat_lt, unsigned_abs, Some, None}
 use Rattle.std.specs.Int.Signed.{shr_z}
 use Rattle.edition.specs.declared.Edition.{Edition}
 use Rattle.edition.specs.declared.Edition.TheVariants.{Shipped, Mended}
@@ -8,9 +8,7 @@ use Rattle.number.specs.Number.{bytes, sign, mantissa, short_of, stored_over}
 use Rattle.number.specs.Value.{signed, short_value}
 use Rattle.number.specs.Restack.{restacked}
 use Rattle.number.specs.Negate.{negated}
-use Rattle.ending.specs.declared.answer.Answer.{Answer}
-use Rattle.ending.specs.declared.answer.Answer.TheVariants.{Done, TooBig}
-use Rattle.ending.specs.Ending.{ended}
+use Rattle.ending.specs.Ending.{ended, Answer}
 
 -- The sign of a whole number, 1 for negative.
 abbrev pub negative : ℤ → ℕ
@@ -58,7 +56,7 @@ ended_whole z e = ended (negative z) (unsigned_abs z) (e + 256) 0
 
 -- "it becomes the floor of (sum + 1) / 2 and e rises by one (256 is report 6)"
 abbrev pub carried : ℤ → ℕ → Answer
-carried z e = cond (e + 1 == 256) TooBig (ended_whole (shr_z (z +ℤ pos 1) 2) (e + 1))
+carried z e = cond (e + 1 == 256) None (ended_whole (shr_z (z +ℤ pos 1) 2) (e + 1))
 
 -- "If the sum is 2^32 or more, or -2^32 or less, it [is carried]. Then the ending."
 unfoldable pub ended_sum : ℤ → ℕ → Answer
@@ -83,7 +81,7 @@ full_route x y = aligned_sum (restacked x) (restacked y)
 
 -- "Short route, both b1 zero. ... A sum from -65,536 to 65,535 is stored short ... Otherwise, the full route."
 unfoldable pub short_route : Edition → Number → Number → Answer
-short_route ed x y = cond (stored_short (short_sum x y)) (Done (written_short ed x (short_sum x y))) (full_route x y)
+short_route ed x y = cond (stored_short (short_sum x y)) (Some (written_short ed x (short_sum x y))) (full_route x y)
 
 unfoldable pub sum_of : Edition → Number → Number → Answer
 sum_of ed x y = cond (x.b1 == 0) (cond (y.b1 == 0) (short_route ed x y) (full_route x y)) (full_route x y)

@@ -3,7 +3,6 @@ ghost use Rattle.std.specs.Prelude.{◌≡◌, ◌+◌, ◌%◌, ◌^◌, ◌<�
 ghost use Rattle.number.specs.Value.{signed};
 ghost use Rattle.addition.specs.Addition.{negative, aligned, ended_sum, signed_sum};
 
-use ending::Answer;
 use number::Number;
 
 // A mantissa moved down by some places, halves towards plus infinity. Twice it is moved, and half of one more than that is the floor: no place is a case of
@@ -38,7 +37,7 @@ fn magnitude(z: i64) -> u64
 }
 
 // The ending of a sum, which may have carried into a 33rd bit: then half of it has its top bit set.
-fn carry_and_end(sign: u8, t: u64, e: u32) -> Answer
+fn carry_and_end(sign: u8, t: u64, e: u32) -> Option<Number>
     requires { (sign < 2) × (t + 1 < 2 ^ 33) × (e < 256) }
     ensures { result ≡ ended_sum (signed sign t) e }
 {
@@ -46,15 +45,15 @@ fn carry_and_end(sign: u8, t: u64, e: u32) -> Answer
         return ending::ending(sign, t as u32, e as u64 + 256, 0);
     }
     if e == 255 {
-        return Answer::TooBig;
+        return None;
     }
-    Answer::Done(Number {
+    Some(Number {
         b1: (e + 1) as u8,
         word: number::full_word(sign, (t + 1 - sign as u64) / 2),
     })
 }
 
-fn ended(z: i64, e: u32) -> Answer
+fn ended(z: i64, e: u32) -> Option<Number>
     requires { (unsigned_abs z + 1 < 2 ^ 33) × (e < 256) }
     ensures { result ≡ ended_sum z e }
 {
@@ -62,7 +61,7 @@ fn ended(z: i64, e: u32) -> Answer
 }
 
 // Two mantissas whose exponent bytes are so many places apart, the larger first.
-fn summed(x: i64, y: i64, places: u32, e: u32) -> Answer
+fn summed(x: i64, y: i64, places: u32, e: u32) -> Option<Number>
     requires { (unsigned_abs x < 2 ^ 32) × (unsigned_abs y < 2 ^ 32) × (e < 256) }
     ensures { result ≡ ended_sum (x +ℤ aligned places y) e }
 {
@@ -95,7 +94,7 @@ fn chosen(first: bool, x: i64, y: i64) -> i64
 
 // Of two mantissas with their signs and their exponent bytes, each the low bits of what is handed over: the compiler knows that there is nothing above. The larger
 // comes first by choices and not by a jump, since which it is goes by the data. Twice its exponent byte less both is how far they are apart.
-pub fn aligned_sum(x: i64, e: u32, y: i64, f: u32) -> Answer
+pub fn aligned_sum(x: i64, e: u32, y: i64, f: u32) -> Option<Number>
     ensures { result ≡ signed_sum (int_rem x (pos 4294967296)) (e % 256) (int_rem y (pos 4294967296)) (f % 256) }
 {
     let m = low_bits(x);

@@ -1,5 +1,6 @@
 -- Each way out of a literal's code in either edition, by what the shipped edition does. No public contract cites this file.
-use Rattle.std.specs.Prelude.{ℕ, ◌+◌, ◌-◌, ◌≡◌, ◌⊎◌, Bool, ◌||◌, List, ltb}
+use Rattle.std.specs.Prelude.{ℕ, ◌+◌, ◌-◌, ◌≡◌, ◌⊎◌, Bool, ◌||◌, List, ltb, Some, None}
+use Rattle.ending.specs.Ending.{Answer}
 use Rattle.std.proofs.Math.Path.{refl}
 use Rattle.std.proofs.Common.{sym, ◌∙◌, ap, inl, inr, arith}
 use Rattle.std.proofs.Math.Bool.{true, false, cond, or-true}
@@ -8,8 +9,6 @@ use Rattle.edition.specs.declared.Edition.{Edition}
 use Rattle.edition.specs.declared.Edition.TheVariants.{Shipped, Mended}
 use Rattle.number.specs.declared.Number.{Number}
 use Rattle.number.specs.Number.{malformed, odd}
-use Rattle.ending.specs.declared.answer.Answer.{Answer}
-use Rattle.ending.specs.declared.answer.Answer.TheVariants.{Done, TooBig}
 use Rattle.addition.specs.MendedLaws.{mended, mended_answer}
 use Rattle.slots.specs.declared.outcome.Outcome.{Outcome}
 use Rattle.slots.specs.Reports.{over_limits}
@@ -84,7 +83,7 @@ module _ (s : List ℕ) (d l : ℕ) (f : Edition → Number → Answer) (r : row
   top_refused Shipped h = absurd (false≢true h)
   top_refused Mended h = one_malformed Mended s d l f r (odd_there s d 0 h) (ap (λ (t : Bool). malformed x || t) h ∙ or-true (malformed x))
 
-  ways : (n m : Number) → f Shipped x ≡ Done n → f Mended x ≡ Done m → odd x ≡ false → Refuses s d l ⊎ Stores s d l 0 n m
+  ways : (n m : Number) → f Shipped x ≡ Some n → f Mended x ≡ Some m → odd x ≡ false → Refuses s d l ⊎ Stores s d l 0 n m
   ways n m g h o = go (lacking s d 1) (malformed x) refl refl
     where
       formless : (ed : Edition) → malformed x ≡ true → malformed_in ed x ≡ true
@@ -100,13 +99,13 @@ module _ (s : List ℕ) (d l : ℕ) (f : Edition → Number → Answer) (r : row
       go false false i j =
           inr (record { there = i; shipped = one_done Shipped s d l f r i n j g ∙ none_above n; mends = one_done Mended s d l f r i m (simp (j, o)) h ∙ none_above m })
 
-  module _ (n : Number) (g : f Shipped x ≡ Done n) where
+  module _ (n : Number) (g : f Shipped x ≡ Some n) where
     pub top_same : (ed : Edition) → odd_in ed x ≡ false → f Mended x ≡ f Shipped x → operate_of ed s d l ≡ operate_of Shipped s d l
     top_same Shipped o h = refl
     top_same Mended o h = same s d l (ways n n g (h ∙ g) o)
 
     pub top_follows : (q d' : ℕ) (s' : List ℕ) (e : operate_of Shipped s d l ≡ (outcome q d', s')) (ed : Edition) → odd_in ed x ≡ false
-        → (ed ≡ Mended → f Mended x ≡ Done (mended n)) → Follows s d l q d' s' e ed
+        → (ed ≡ Mended → f Mended x ≡ Some (mended n)) → Follows s d l q d' s' e ed
     top_follows q d' s' e Shipped o h = follows_shipped s d l q d' s' e
     top_follows q d' s' e Mended o h = follows s d l q d' s' e (ways n (mended n) g (h refl) o)
 
@@ -156,7 +155,7 @@ module _ (s : List ℕ) (d l : ℕ) (f : Edition → Number → Number → Answe
   formless Shipped m = m
   formless Mended m = some_first (malformed lower) (odd lower) (malformed upper) (odd upper) m
 
-  pair_ways : (g : Number → Number) → ((n : Number) → f Shipped lower upper ≡ Done n → f Mended lower upper ≡ Done (g n)) → (f Shipped lower upper ≡ TooBig → f Mended lower upper ≡ TooBig)
+  pair_ways : (g : Number → Number) → ((n : Number) → f Shipped lower upper ≡ Some n → f Mended lower upper ≡ Some (g n)) → (f Shipped lower upper ≡ None → f Mended lower upper ≡ None)
       → odd_pair Mended s d ≡ false → Refuses s d l ⊎ ((n : Number) × Stores s d l 1 n (g n))
   pair_ways g h b o = go (lacking s d 2) (malformed lower || malformed upper) (f Shipped lower upper) refl refl refl
     where
@@ -164,12 +163,12 @@ module _ (s : List ℕ) (d l : ℕ) (f : Edition → Number → Number → Answe
           → Refuses s d l ⊎ ((n : Number) × Stores s d l 1 n (g n))
       go true q c i j k = inl (refused s d l (refusal_of s d 2) (refusal_some s d 2) (λ ed. two_lacking ed s d l f r i (refusal_of s d 2) refl))
       go false true c i j k = inl (refused s d l 3 (λ z. omega arith) (λ ed. two_malformed ed s d l f r i (formless ed j)))
-      go false false TooBig i j k = inl (refused s d l 6 (λ z. omega arith) each)
+      go false false None i j k = inl (refused s d l 6 (λ z. omega arith) each)
         where
           each : (ed : Edition) → operate_of ed s d l ≡ (outcome 6 d, s)
           each Shipped = two_too_big Shipped s d l f r i j k
           each Mended = two_too_big Mended s d l f r i (formed Mended i o j) (b k)
-      go false false (Done n) i j k =
+      go false false (Some n) i j k =
           inr (n, record { there = i; shipped = two_done Shipped s d l f r i j n k; mends = two_done Mended s d l f r i (formed Mended i o j) (g n) (h n k) })
 
   pub pair_same : (ed : Edition) → odd_pair ed s d ≡ false → f Mended lower upper ≡ f Shipped lower upper → operate_of ed s d l ≡ operate_of Shipped s d l

@@ -3,7 +3,6 @@ ghost use Rattle.std.specs.Prelude.{◌≡◌};
 ghost use Rattle.literals.specs.Operate.{outcome, operate_of};
 
 use edition::Edition;
-use ending::Answer;
 use literals::table;
 use odd::{mend_top, odd_pair};
 
@@ -65,11 +64,11 @@ pub fn divide(edition: Edition, stack: &mut [u8], depth: &mut usize) -> u8
     }
     let answer = division::division(edition, a.sign, a.m, a.e, b.sign, b.m, b.e);
     match answer {
-        Answer::Done(n) => {
+        Some(n) => {
             places::put_at(stack, old, 1, n.b1, n.word);
             *depth = old - table::DIVIDE_TAKES + table::DIVIDE_LEAVES;
             0
         }
-        Answer::TooBig => 6,
+        None => 6,
     }
 }

@@ -1,10 +1,9 @@
 -- What a literal that takes two numbers leaves on a stack where its arithmetic gives a number: the number in the first one's slot, and nothing else moved.
-use Rattle.std.specs.Prelude.{ℕ, ◌+◌, ◌-◌, ◌*◌, ◌≤◌, ◌<◌, ◌≡◌, List, length, get_or}
+use Rattle.std.specs.Prelude.{ℕ, ◌+◌, ◌-◌, ◌*◌, ◌≤◌, ◌<◌, ◌≡◌, List, length, get_or, Some}
+use Rattle.ending.specs.Ending.{Answer}
 use Rattle.std.proofs.Common.{◌∙◌, ap, arith}
 use Rattle.edition.specs.declared.Edition.{Edition}
 use Rattle.number.specs.declared.Number.{Number}
-use Rattle.ending.specs.declared.answer.Answer.{Answer}
-use Rattle.ending.specs.declared.answer.Answer.TheVariants.{Done}
 use Rattle.slots.specs.Slots.{number_in, lower, top}
 use Rattle.literals.specs.Literals.{two, operation_of}
 use Rattle.literals.specs.Reports.{is_too_big, too_big}
@@ -22,7 +21,7 @@ pub record Answered (ed : Edition) (s : List ℕ) (d l : ℕ) (n : Number) : Typ
   pub long : length (operate_of ed s d l).1 ≡ length s
   pub elsewhere : (k : ℕ) → (5 * (d - 2) ≤ k → k < 5 * (d - 2) + 5 → ⊥) → get_or (operate_of ed s d l).1 k 0 ≡ get_or s k 0
 
-pub answered : (ed : Edition) (s : List ℕ) (d l : ℕ) (f : Edition → Number → Number → Answer) → operation_of l ≡ two f → Passed ed s d l → (n : Number) → f ed (lower s d) (top s d) ≡ Done n → Answered ed s d l n
+pub answered : (ed : Edition) (s : List ℕ) (d l : ℕ) (f : Edition → Number → Number → Answer) → operation_of l ≡ two f → Passed ed s d l → (n : Number) → f ed (lower s d) (top s d) ≡ Some n → Answered ed s d l n
 unfolding too_big is_too_big
 answered ed s d l f o p n e =
     let ok = (accepted ed s d l).1 (p, simp o (ap is_too_big e)) in

@@ -1,6 +1,7 @@
 -- A2, the operations: of numbers that are the same but for b5 of a short or odd one, the form and the cell are the same, and so is what an operation
 -- gives, but for b5 again. (Sums and int: ButB5Sums.)
-use Rattle.std.specs.Prelude.{ℕ, ◌-◌, ◌≡◌, refl, ◌||◌}
+use Rattle.std.specs.Prelude.{ℕ, ◌-◌, ◌≡◌, refl, ◌||◌, Some}
+use Rattle.ending.specs.Ending.{Answer}
 use Rattle.std.proofs.Common.{◌∙◌, inl, inr}
 use Rattle.std.proofs.Math.Path.{ap, ap₂}
 use Rattle.edition.specs.declared.Edition.{Edition}
@@ -12,8 +13,6 @@ use Rattle.number.specs.Number.{short_of, form_of, is_malformed, malformed, is_o
 use Rattle.number.specs.Restack.{restacked}
 use Rattle.number.specs.Negate.{negated_as, negated}
 use Rattle.value.specs.Double.{double_of_restacked, double_of}
-use Rattle.ending.specs.declared.answer.Answer.{Answer}
-use Rattle.ending.specs.declared.answer.Answer.TheVariants.{Done}
 use Rattle.division.specs.Division.{restacked_quotient, quotient_of}
 use Rattle.multiplication.specs.Multiplication.{product_of}
 use Rattle.truncation.specs.Truncate.{truncated}
@@ -86,13 +85,13 @@ module _ (x x' y y' : Number) (h : Like x x') (k : Like y y') where
   unfolding product_of
   product_same = rw (s.restacks, t.restacks, s.magnitudes, t.magnitudes, s.signs, t.signs, s.exponents, t.exponents)
 
-pub negation_keeps : KeepsOne (λ ed x. Done (negated x))
+pub negation_keeps : KeepsOne (λ ed x. Some (negated x))
 negation_keeps ed x x' h = done (negated_alike x x' h)
 
-pub truncation_keeps : KeepsOne (λ ed x. Done (truncated ed x))
+pub truncation_keeps : KeepsOne (λ ed x. Some (truncated ed x))
 truncation_keeps ed x x' h = done (truncated_alike ed x x' h)
 
-pub restacking_keeps : KeepsOne (λ ed x. Done (restacked x))
+pub restacking_keeps : KeepsOne (λ ed x. Some (restacked x))
 restacking_keeps ed x x' h = done (inl (parts_same x x' h).restacks)
 
 pub division_keeps : KeepsTwo quotient_of

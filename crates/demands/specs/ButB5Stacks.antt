@@ -1,10 +1,10 @@
 -- A2, on slots: every literal keeps them the same but for b5 of a short or odd number.
 use Rattle.std.specs.Prelude.{ℕ, ◌<◌, ◌≡◌, refl, List, get_or}
+use Rattle.ending.specs.Ending.{Answer}
 use Rattle.std.proofs.Common.{sym, ◌∙◌, ap, inl, inr, arith, get_or-take}
 use Rattle.edition.specs.declared.Edition.{Edition}
 use Rattle.number.specs.declared.Number.{Number}
 use Rattle.number.specs.NumberLaws.{upper}
-use Rattle.ending.specs.declared.answer.Answer.{Answer}
 use Rattle.slots.specs.Slots.{number_in, bytes_of}
 use Rattle.literals.specs.Literals.{one, two, Row, operation_of}
 use Rattle.slots.specs.SlotFacts.{number_back}

@@ -1,6 +1,7 @@
 -- A2, sums: what the short route stores over two numbers is the same but for b5, which is each one's own. So addition commutes but for b5 of a short or odd
 -- result, and of numbers that are the same but for b5 sums, differences and int are the same, but for b5 again.
 use Rattle.std.specs.Prelude.{ℕ, suc, ◌+◌, ◌*◌, ◌-◌, ◌^◌, ◌/◌, ◌≡◌, refl, Bool, true, false, cond, ◌&&◌, eqb, ltb, ℤ, pos, negsuc, neg_ℤ, ◌+ℤ◌}
+use Rattle.ending.specs.Ending.{Answer}
 use Rattle.std.proofs.Common.{sym, ◌∙◌, ap, ap₂, inr, arith, eqb-true, leb-true, ltb-true, ltb-false}
 use Rattle.std.proofs.Math.Logic.{inl}
 use Rattle.std.proofs.Math.Bool.{and_comm, and-eq-true_iff}
@@ -16,7 +17,6 @@ use Rattle.number.specs.FormLaws.{form_short, form_odd, form_negative}
 use Rattle.number.specs.Value.{short_value}
 use Rattle.number.specs.Negate.{negated}
 use Rattle.number.specs.Restack.{restacked}
-use Rattle.ending.specs.declared.answer.Answer.{Answer}
 use Rattle.addition.specs.Addition.{aligned, signed_mantissa, ended_sum, larger, aligned_sum, stored_short, short_sum, short_of_whole, written_short, full_route, short_route, sum_of, difference_of}
 use Rattle.truncation.specs.Truncate.{truncated}
 use Rattle.truncation.specs.Int.{short_one, step_down, int_of}

@@ -1,11 +1,10 @@
 -- The bytes of a stack, and those that an accepted operation leaves, slot by slot.
-use Rattle.std.specs.Prelude.{ℕ, ◌+◌, ◌-◌, ◌*◌, ◌≤◌, ◌<◌, ◌≡◌, refl, true, false, List, length, get_or}
+use Rattle.std.specs.Prelude.{ℕ, ◌+◌, ◌-◌, ◌*◌, ◌≤◌, ◌<◌, ◌≡◌, refl, true, false, List, length, get_or, Some, None}
+use Rattle.ending.specs.Ending.{Answer}
 use Rattle.std.proofs.Common.{arith}
 use Rattle.edition.specs.declared.Edition.{Edition}
 use Rattle.number.specs.declared.Number.{Number}
 use Rattle.number.specs.NumberLaws.{Bytes}
-use Rattle.ending.specs.declared.answer.Answer.{Answer}
-use Rattle.ending.specs.declared.answer.Answer.TheVariants.{Done, TooBig}
 use Rattle.slots.specs.Slots.{slot, number_in, put_slot}
 use Rattle.slots.specs.SlotLaws.{length_put_slot}
 use Rattle.literals.specs.Literals.{takes}
@@ -43,12 +42,12 @@ only_put s i five h f =
     }
 
 -- an answer that is not too big is a number
-pub number_of : (a : Answer) → is_too_big a ≡ false → (n : Number) × (a ≡ Done n)
+pub number_of : (a : Answer) → is_too_big a ≡ false → (n : Number) × (a ≡ Some n)
 unfolding is_too_big
-number_of (Done n) h = (n, refl)
-number_of TooBig h = absurd (let z : ◌≡◌ {A = ℕ} 0 1 = cc in omega arith)
+number_of (Some n) h = (n, refl)
+number_of None h = absurd (let z : ◌≡◌ {A = ℕ} 0 1 = cc in omega arith)
 
-pub is_too_big_lem : (a : Answer) → is_too_big a ≡ true → a ≡ TooBig
+pub is_too_big_lem : (a : Answer) → is_too_big a ≡ true → a ≡ None
 unfolding is_too_big
-is_too_big_lem TooBig h = refl
-is_too_big_lem (Done n) h = absurd (let z : ◌≡◌ {A = ℕ} 0 1 = cc in omega arith)
+is_too_big_lem None h = refl
+is_too_big_lem (Some n) h = absurd (let z : ◌≡◌ {A = ℕ} 0 1 = cc in omega arith)

@@ -1,13 +1,12 @@
 -- A literal that takes two numbers, whose arithmetic commutes up to a relation: with the two operands in each other's place the report and the depth are the
 -- same, and so are the results, up to that relation.
-use Rattle.std.specs.Prelude.{ℕ, zero, suc, ◌+◌, ◌-◌, ◌≡◌, refl, ◌||◌, List, length}
+use Rattle.std.specs.Prelude.{ℕ, zero, suc, ◌+◌, ◌-◌, ◌≡◌, refl, ◌||◌, List, length, Some}
+use Rattle.ending.specs.Ending.{Answer}
 use Rattle.std.proofs.Common.{sym, ◌∙◌, arith}
 use Rattle.std.proofs.Math.Path.{ap, ap₂}
 use Rattle.std.proofs.Math.Bool.{or_comm}
 use Rattle.edition.specs.declared.Edition.{Edition}
 use Rattle.number.specs.declared.Number.{Number}
-use Rattle.ending.specs.declared.answer.Answer.{Answer}
-use Rattle.ending.specs.declared.answer.Answer.TheVariants.{Done}
 use Rattle.slots.specs.Slots.{slot, bytes_of, lower, top}
 use Rattle.slots.specs.Reports.{over_limits}
 use Rattle.slots.specs.Push.{settled}
@@ -25,7 +24,7 @@ outcome_alone zero d d' s s' t t' = refl
 outcome_alone (suc k) d d' s s' t t' = refl
 
 -- two answers that are numbers
-related : {N : Number → Number → Type 0} {v v' : Answer} → Answers N v v' → (a b : Number) → v ≡ Done a → v' ≡ Done b → N a b
+related : {N : Number → Number → Type 0} {v v' : Answer} → Answers N v v' → (a b : Number) → v ≡ Some a → v' ≡ Some b → N a b
 related (done {n} {m} r) a b e f = let p : n ≡ a = cc in let q : m ≡ b = cc in rw (← p, ← q) r
 related both_too_big a b e f = absurd (let z : ◌≡◌ {A = ℕ} 0 1 = cc in omega arith)
 

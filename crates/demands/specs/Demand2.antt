@@ -1,5 +1,6 @@
 -- Demand 2: "Each accepted operation leaves exactly the five bytes, depth and untouched neighbours that document 01's rules give." Of either edition.
-use Rattle.std.specs.Prelude.{ℕ, ◌+◌, ◌-◌, ◌*◌, ◌≤◌, ◌<◌, ◌≡◌, refl, List, get_or}
+use Rattle.std.specs.Prelude.{ℕ, ◌+◌, ◌-◌, ◌*◌, ◌≤◌, ◌<◌, ◌≡◌, refl, List, get_or, Some}
+use Rattle.ending.specs.Ending.{Answer}
 use Rattle.std.proofs.Common.{◌∙◌, ap}
 use native.Mathlib.Omega.{arith}
 use Rattle.std.proofs.Math.ListN.{length}
@@ -13,8 +14,6 @@ use Rattle.addition.specs.Addition.{sum_of, difference_of}
 use Rattle.division.specs.Division.{quotient_of}
 use Rattle.multiplication.specs.Multiplication.{product_of}
 use Rattle.truncation.specs.Int.{int_of}
-use Rattle.ending.specs.declared.answer.Answer.{Answer}
-use Rattle.ending.specs.declared.answer.Answer.TheVariants.{Done}
 use Rattle.slots.specs.Slots.{slot, bytes_of, put_slot, top, lower}
 use Rattle.slots.specs.Reports.{no_room, push_report}
 use Rattle.slots.specs.Push.{settled, push_of}
@@ -29,8 +28,8 @@ use Rattle.demands.specs.Bytes.{Only, only_put, number_of}
 
 -- the eleven literals
 pub literals : (operation_of 1 ≡ exchange) × (operation_of 2 ≡ delete) × (operation_of 3 ≡ two difference_of) × (operation_of 4 ≡ two (λ ed. product_of))
-    × (operation_of 5 ≡ two quotient_of) × (operation_of 15 ≡ two sum_of) × (operation_of 27 ≡ one (λ ed x. Done (negated x))) × (operation_of 39 ≡ one int_of)
-    × (operation_of 49 ≡ duplicate) × (operation_of 58 ≡ one (λ ed x. Done (truncated ed x))) × (operation_of 61 ≡ one (λ ed x. Done (restacked x)))
+    × (operation_of 5 ≡ two quotient_of) × (operation_of 15 ≡ two sum_of) × (operation_of 27 ≡ one (λ ed x. Some (negated x))) × (operation_of 39 ≡ one int_of)
+    × (operation_of 49 ≡ duplicate) × (operation_of 58 ≡ one (λ ed x. Some (truncated ed x))) × (operation_of 61 ≡ one (λ ed x. Some (restacked x)))
 unfolding operation_of row_of
 literals = (refl, refl, refl, refl, refl, refl, refl, refl, refl, refl, refl)
 
@@ -48,7 +47,7 @@ module _ (ed : Edition) (s : List ℕ) (d l : ℕ) (ok : report_of ed s d l ≡ 
 
   -- "The lower operand is the first, and the result stands in its slot", for subtract, multiply, divide and add. The second's slot is elsewhere.
   pub after_two : (f : Edition → Number → Number → Answer) → operation_of l ≡ two f
-      → (n : Number) × (f ed (lower s d) (top s d) ≡ Done n) × Only s (operate_of ed s d l).1 (d - 2) (bytes_of n)
+      → (n : Number) × (f ed (lower s d) (top s d) ≡ Some n) × Only s (operate_of ed s d l).1 (d - 2) (bytes_of n)
   unfolding too_big bytes_after stored bytes_of
   after_two f e =
       let a = number_of (f ed (lower s d) (top s d)) (simp e at ((accepted ed s d l).0 ok).1) in
@@ -56,7 +55,7 @@ module _ (ed : Edition) (s : List ℕ) (d l : ℕ) (ok : report_of ed s d l ≡ 
 
   -- for negate, int, truncate and re-stack
   pub after_one : (f : Edition → Number → Answer) → operation_of l ≡ one f
-      → (n : Number) × (f ed (top s d) ≡ Done n) × Only s (operate_of ed s d l).1 (d - 1) (bytes_of n)
+      → (n : Number) × (f ed (top s d) ≡ Some n) × Only s (operate_of ed s d l).1 (d - 1) (bytes_of n)
   unfolding too_big bytes_after stored bytes_of
   after_one f e =
       let a = number_of (f ed (top s d)) (simp e at ((accepted ed s d l).0 ok).1) in

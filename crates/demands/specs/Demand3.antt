@@ -1,6 +1,6 @@
 -- Demand 3 of either edition, of literal 5's own report, depth and bytes on a stack. What its digits write, and what the result is, are the records of crate
 -- division, where the exception is the shipped edition's alone.
-use Rattle.std.specs.Prelude.{ℕ, ◌+◌, ◌-◌, ◌*◌, ◌≤◌, ◌<◌, ◌≡◌, ◌↔◌, List, length, get_or}
+use Rattle.std.specs.Prelude.{ℕ, ◌+◌, ◌-◌, ◌*◌, ◌≤◌, ◌<◌, ◌≡◌, ◌↔◌, List, length, get_or, Some}
 use Rattle.std.proofs.Common.{sym, ◌∙◌, arith}
 use Rattle.std.proofs.Math.Path.{ap, subst⁻¹}
 use Rattle.edition.specs.declared.Edition.{Edition}
@@ -8,7 +8,6 @@ use Rattle.edition.specs.declared.Edition.TheVariants.{Mended}
 use Rattle.number.specs.declared.Number.{Number}
 use Rattle.number.specs.Number.{mantissa}
 use Rattle.number.specs.Restack.{restacked, CountsAsZero}
-use Rattle.ending.specs.declared.answer.Answer.TheVariants.{Done}
 use Rattle.division.specs.Division.{quotient_of}
 use Rattle.division.specs.Demand3.{nearest, added, exact, Digits, Result, Demand3}
 use Rattle.division.proofs.Demand3Laws.{demand3}
@@ -67,7 +66,7 @@ module _ (ed : Edition) (s : List ℕ) (d : ℕ) (h : Divides ed s d) where
       demand3 ed (lower s d) (top s d) (operand_bytes ed s d 5 2 h.bytes h.passed (omega arith) (omega arith))
       (operand_bytes ed s d 5 1 h.bytes h.passed (omega arith) (omega arith)) h.dividend h.divisor
 
-  is_left : (E : ℕ) (n : Number) → quotient_of ed (lower s d) (top s d) ≡ Done n → Result (M s d) (N s d) ed E n → Left ed s d E
+  is_left : (E : ℕ) (n : Number) → quotient_of ed (lower s d) (top s d) ≡ Some n → Result (M s d) (N s d) ed E n → Left ed s d E
   is_left E n e r =
       let a = answered ed s d 5 quotient_of literals.4 h.passed n e in
       record {

@@ -1,14 +1,13 @@
 -- What a relation of slots has to fulfil for no answer to depend on what it leaves open, and what an operation then leaves: on two stacks that agree
 -- below the depth, what it checks is the same, and what it leaves below the new depth agrees.
-use Rattle.std.specs.Prelude.{ℕ, ◌+◌, ◌-◌, ◌*◌, ◌≤◌, ◌<◌, ◌≡◌, false, List, length}
+use Rattle.std.specs.Prelude.{ℕ, ◌+◌, ◌-◌, ◌*◌, ◌≤◌, ◌<◌, ◌≡◌, false, List, length, Some, None}
+use Rattle.ending.specs.Ending.{Answer}
 use Rattle.std.proofs.Math.Path.{refl, ap₂}
 use Rattle.std.proofs.Math.Bool.{◌||◌}
 use native.Mathlib.Omega.{arith}
 use borrow.Author.Tests.{ltb-false}
 use Rattle.edition.specs.declared.Edition.{Edition}
 use Rattle.number.specs.declared.Number.{Number}
-use Rattle.ending.specs.declared.answer.Answer.{Answer}
-use Rattle.ending.specs.declared.answer.Answer.TheVariants.{Done, TooBig}
 use Rattle.slots.specs.Slots.{slot, number_in, bytes_of, top, lower}
 use Rattle.slots.specs.SlotLaws.{length_put_slot}
 use Rattle.slots.specs.Reports.{no_room}
@@ -21,8 +20,8 @@ use Rattle.demands.specs.Agreement.{Agree, room_agrees, lesser, slots_agree, of_
 
 -- two answers: numbers that are related, or both too big
 pub data Answers (N : Number → Number → Type 0) : Answer → Answer → Type 0 where
-  done : {n m : Number} → N n m → Answers N (Done n) (Done m)
-  both_too_big : Answers N TooBig TooBig
+  done : {n m : Number} → N n m → Answers N (Some n) (Some m)
+  both_too_big : Answers N None None
 
 -- numbers whose five bytes are related
 abbrev pub InBytes : (List ℕ → List ℕ → Type 0) → Number → Number → Type 0
@@ -50,8 +49,8 @@ pub answers_same : {N : Number → Number → Type 0} → ((n : Number) → N n 
 answers_same {N} same v v' e = rw e (go v')
   where
     go : (w : Answer) → Answers N w w
-    go (Done n) = done (same n)
-    go TooBig = both_too_big
+    go (Some n) = done (same n)
+    go None = both_too_big
 
 pub too_big_same : {N : Number → Number → Type 0} {v v' : Answer} → Answers N v v' → is_too_big v ≡ is_too_big v'
 unfolding is_too_big

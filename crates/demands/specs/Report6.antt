@@ -1,5 +1,6 @@
 -- Report 6, exactly: "number too big: division when the divisor counts as zero, or an exponent byte above 255", where no row before it holds.
-use Rattle.std.specs.Prelude.{ℕ, refl, ◌↔◌, List}
+use Rattle.std.specs.Prelude.{ℕ, refl, ◌↔◌, List, Some, None}
+use Rattle.ending.specs.Ending.{Answer}
 use Rattle.std.proofs.Math.Path.{◌≡◌, ap}
 use Rattle.std.proofs.Common.{sym, ◌∙◌}
 use native.Mathlib.Omega.{arith}
@@ -8,8 +9,6 @@ use Rattle.number.specs.declared.Number.{Number}
 use Rattle.number.specs.NumberLaws.{Bytes}
 use Rattle.number.specs.Restack.{restacked}
 use Rattle.number.specs.Negate.{negated}
-use Rattle.ending.specs.declared.answer.Answer.{Answer}
-use Rattle.ending.specs.declared.answer.Answer.TheVariants.{Done, TooBig}
 use Rattle.addition.specs.Addition.{sum_of, difference_of}
 use Rattle.addition.specs.TooBig.{SumTooBig}
 use Rattle.addition.proofs.TooBigLaws.{sum_too_big, difference_too_big}
@@ -33,7 +32,7 @@ use Rattle.demands.specs.Demand2.{literals}
 
 module _ (ed : Edition) (s : List ℕ) (b : AreBytes s) (d : ℕ) where
   of_two : (l : ℕ) (f : Edition → Number → Number → Answer) (P : Number → Number → Type 0) → operation_of l ≡ two f
-      → ((x y : Number) → Bytes x → Bytes y → (f ed x y ≡ TooBig) ↔ P x y)
+      → ((x y : Number) → Bytes x → Bytes y → (f ed x y ≡ None) ↔ P x y)
       → ((operate_of ed s d l).0.report ≡ 6) ↔ (Passed ed s d l × P (lower s d) (top s d))
   unfolding too_big is_too_big
   of_two l f P e t = (
@@ -41,12 +40,12 @@ module _ (ed : Edition) (s : List ℕ) (b : AreBytes s) (d : ℕ) where
     (λ p. operation_report ed s d l ∙ (too_big_lem ed s d l).1 (p.0, simp e (ap is_too_big ((here p.0).1 p.1)))),
   )
     where
-      here : Passed ed s d l → (f ed (lower s d) (top s d) ≡ TooBig) ↔ P (lower s d) (top s d)
+      here : Passed ed s d l → (f ed (lower s d) (top s d) ≡ None) ↔ P (lower s d) (top s d)
       here p =
           let k = takes_are l ∙ ap takes_of e in
           t (lower s d) (top s d) (operand_bytes ed s d l 2 b p (omega arith) (omega arith)) (operand_bytes ed s d l 1 b p (omega arith) (omega arith))
 
-  of_one : (l : ℕ) (f : Edition → Number → Answer) → operation_of l ≡ one f → ((x : Number) → Bytes x → (n : Number) × (f ed x ≡ Done n)) → ¬ ((operate_of ed s d l).0.report ≡ 6)
+  of_one : (l : ℕ) (f : Edition → Number → Answer) → operation_of l ≡ one f → ((x : Number) → Bytes x → (n : Number) × (f ed x ≡ Some n)) → ¬ ((operate_of ed s d l).0.report ≡ 6)
   unfolding too_big
   of_one l f e t r =
       let p = (too_big_lem ed s d l).0 (sym (operation_report ed s d l) ∙ r) in

@@ -1,6 +1,6 @@
 -- Document 01's sums, by computation: the starred rows, together, the other rows with the edges of the rules, multiplication's, those that keep a b5, and the worked
 -- run, all of the shipped edition; then the mended edition's. Each row is an operation on a stack of its own.
-use Rattle.std.specs.Prelude.{ℕ, ◌≡◌, refl, List, [], ◌∷◌, ◌++◌, map}
+use Rattle.std.specs.Prelude.{ℕ, ◌≡◌, refl, List, [], ◌∷◌, ◌++◌, map, Some}
 use Rattle.std.specs.Int.Count.{count_leading_zeros}
 use Rattle.edition.specs.declared.Edition.{Edition}
 use Rattle.edition.specs.declared.Edition.TheVariants.{Shipped, Mended}
@@ -10,7 +10,6 @@ use Rattle.number.specs.Value.{short_value}
 use Rattle.number.specs.Restack.{restacked, full_of_short}
 use Rattle.number.specs.Negate.{negated}
 use Rattle.truncation.specs.Truncate.{truncated, truncated_full, taken65536}
-use Rattle.ending.specs.declared.answer.Answer.TheVariants.{Done}
 use Rattle.ending.specs.Ending.{normal, closed, ended}
 use Rattle.division.specs.Rounds.{tried, rounds}
 use Rattle.division.specs.Division.{full_quotient, restacked_quotient, quotient_of}
@@ -149,8 +148,8 @@ multiplied =
 -- its two products, on the definition alone
 abbrev pub Worked : Type 0
 Worked =
-    (product_of (bytes 0 0 0 0x01 0) (bytes 0 0 0xFF 0 0) ≡ Done (bytes 0 0 0 0xFF 0))
-    × (product_of (bytes 0 0 0 0x01 0) (bytes 0 0 0 0x01 0) ≡ Done (bytes 0x91 0 0 0 0))
+    (product_of (bytes 0 0 0 0x01 0) (bytes 0 0 0xFF 0 0) ≡ Some (bytes 0 0 0 0xFF 0))
+    × (product_of (bytes 0 0 0 0x01 0) (bytes 0 0 0 0x01 0) ≡ Some (bytes 0x91 0 0 0 0))
 
 -- Document 02, A2: the first number's b5 stays in a short sum, also where it is zero or odd, and where a zero is subtracted; beyond the short route nothing of it is left.
 -- Int of a short number leaves it, and of a full one less the short 1 keeps the 0 that truncation wrote.

@@ -1,6 +1,6 @@
 -- Demand 3 holds of every division of two full numbers, in either edition. M below N takes one doubling, and the mantissa is the whole quotient, rounded by the
 -- 34th digit; else it takes none, and the mantissa is half the quotient, rounded by digit 33.
-use Rattle.std.specs.Prelude.{◌≡◌, refl, Bool, true, false, ◌↔◌, ◌⊎◌, ℕ, ◌+◌, ◌*◌, ◌-◌, ◌^◌, ◌/◌, ◌%◌, ◌≤◌, ◌<◌, ltb}
+use Rattle.std.specs.Prelude.{◌≡◌, refl, Bool, true, false, ◌↔◌, ◌⊎◌, ℕ, ◌+◌, ◌*◌, ◌-◌, ◌^◌, ◌/◌, ◌%◌, ◌≤◌, ◌<◌, ltb, None}
 use Rattle.std.proofs.Common.{sym, ◌∙◌, inl, inr, mul_comm, add-mul, mul_assoc, eq-zero-or-pos, arith, ltb-true, ltb-false, lt-ltb, le-ltb}
 use Rattle.std.proofs.Math.Path.{ap}
 use Rattle.std.proofs.Math.Nat.{div-div-eq-div-mul}
@@ -12,9 +12,7 @@ use Rattle.number.specs.Number.{zeros, mantissa, full_of}
 use Rattle.number.specs.NumberLaws.{Bytes, mantissa_full}
 use Rattle.number.specs.Restack.{restacked, CountsAsZero}
 use Rattle.number.proofs.RestackValueLaws.{restacked_zero}
-use Rattle.ending.specs.declared.answer.Answer.{Answer}
-use Rattle.ending.specs.declared.answer.Answer.TheVariants.{TooBig}
-use Rattle.ending.specs.Ending.{Loose, loose, rounded, closed}
+use Rattle.ending.specs.Ending.{Loose, loose, rounded, closed, Answer}
 use Rattle.ending.proofs.EndingLaws.{closed_too_big, closed_too_big_only, closed_stored}
 use Rattle.division.specs.Rounds.{Mantissas, rounds33, digit34}
 use Rattle.division.specs.RoundsLaws.{Writes, digit34_zero, digit34_goes, digit34_stays}
@@ -156,18 +154,18 @@ module _ (ed : Edition) (x y : Number) (bx : Bytes x) (by : Bytes y) where
       rw (quotient_full ed (restacked x) (restacked y) f g) (plain_demand3 ed _ _ _ _ _ (omega arith) (omega arith))
 
   -- report 6 of any two
-  pub quotient_too_big : (quotient_of ed x y ≡ TooBig) ↔ QuotientTooBig x y
+  pub quotient_too_big : (quotient_of ed x y ≡ None) ↔ QuotientTooBig x y
   unfolding quotient_of
   quotient_too_big = ((λ e. only e (eq-zero-or-pos (restacked x).b1) (eq-zero-or-pos (restacked y).b1)), so)
     where
       other : (z : Number) → 0 < z.b1 → ¬ (z ≡ zeros)
       other z p e = omega (arith, ap (λ (n : Number). n.b1) e)
 
-      only : quotient_of ed x y ≡ TooBig → ((restacked x).b1 ≡ 0) ⊎ (0 < (restacked x).b1) → ((restacked y).b1 ≡ 0) ⊎ (0 < (restacked y).b1) → QuotientTooBig x y
+      only : quotient_of ed x y ≡ None → ((restacked x).b1 ≡ 0) ⊎ (0 < (restacked x).b1) → ((restacked y).b1 ≡ 0) ⊎ (0 < (restacked y).b1) → QuotientTooBig x y
       only e p (inl z) = inl (restacked_zero y by z)
       only e (inl z) (inr q) = absurd (let d = quotient_of_zero ed (restacked x) (restacked y) (omega arith) z in let o : ◌≡◌ {A = ℕ} 0 1 = cc in omega arith)
       only e (inr p) (inr q) = let nx = other (restacked x) p in let ny = other (restacked y) q in inr (nx, ny, (demand3 nx ny).report6.0 e)
 
-      so : QuotientTooBig x y → quotient_of ed x y ≡ TooBig
+      so : QuotientTooBig x y → quotient_of ed x y ≡ None
       so (inl z) = quotient_by_zero ed (restacked x) (restacked y) (ap (λ (n : Number). n.b1) z)
       so (inr (nx, ny, e)) = (demand3 nx ny).report6.1 e

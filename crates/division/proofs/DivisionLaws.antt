@@ -1,5 +1,5 @@
 -- Division's laws: the 33 digits as one division, what the ending makes of them, and a law for each way through the definition.
-use Rattle.std.specs.Prelude.{◌≡◌, refl, Bool, true, false, ℕ, zero, suc, ◌+◌, ◌*◌, ◌-◌, ◌^◌, ◌/◌, ◌%◌, ◌≤◌, ◌<◌, ltb}
+use Rattle.std.specs.Prelude.{◌≡◌, refl, Bool, true, false, ℕ, zero, suc, ◌+◌, ◌*◌, ◌-◌, ◌^◌, ◌/◌, ◌%◌, ◌≤◌, ◌<◌, ltb, Some, None}
 use Rattle.std.proofs.Common.{sym, ◌∙◌, ap, ap₂, arith}
 use borrow.Author.Tests.{eq-eqb, ne_eqb, ltb-true, ltb-false}
 use Rattle.std.specs.Int.Bits.{bit_xor}
@@ -7,7 +7,6 @@ use Rattle.std.proofs.lemmas.Nat.{xor_shr}
 use Rattle.edition.specs.declared.Edition.{Edition}
 use Rattle.number.specs.declared.Number.{Number}
 use Rattle.number.specs.Number.{zeros, sign, mantissa}
-use Rattle.ending.specs.declared.answer.Answer.TheVariants.{Done, TooBig}
 use Rattle.ending.specs.Ending.{Loose, loose, doubled, normal, rounded, closed}
 use Rattle.ending.proofs.EndingLaws.{normal_set, normal_again, closed_rounded, ended_set, ended_once}
 use Rattle.division.specs.Rounds.{Mantissas, rounds33, digit34}
@@ -86,11 +85,11 @@ module _ (m n : ℕ) (are : Mantissas m n) where
 
 -- of re-stacked numbers, a law a way through
 module _ (ed : Edition) (x y : Number) where
-  pub quotient_by_zero : y.b1 ≡ 0 → restacked_quotient ed x y ≡ TooBig
+  pub quotient_by_zero : y.b1 ≡ 0 → restacked_quotient ed x y ≡ None
   unfolding restacked_quotient
   quotient_by_zero h = simp (eq-eqb _ _ h)
 
-  pub quotient_of_zero : (y.b1 ≡ 0 → ⊥) → x.b1 ≡ 0 → restacked_quotient ed x y ≡ Done zeros
+  pub quotient_of_zero : (y.b1 ≡ 0 → ⊥) → x.b1 ≡ 0 → restacked_quotient ed x y ≡ Some zeros
   unfolding restacked_quotient
   quotient_of_zero h g = simp (ne_eqb _ _ h, eq-eqb _ _ g)
 

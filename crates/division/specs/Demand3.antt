@@ -1,14 +1,13 @@
 -- Demand 3 of either edition, over the rounds of `Rounds` and in whole numbers. M and N, here m and n, are the mantissas of the re-stacked dividend and divisor, and a
 -- and b their exponent bytes.
-use Rattle.std.specs.Prelude.{◌≡◌, cond, ◌↔◌, ◌⊎◌, ℕ, ◌+◌, ◌*◌, ◌^◌, ◌/◌, ◌≤◌, ◌<◌, ltb}
+use Rattle.std.specs.Prelude.{◌≡◌, cond, ◌↔◌, ◌⊎◌, ℕ, ◌+◌, ◌*◌, ◌^◌, ◌/◌, ◌≤◌, ◌<◌, ltb, Some, None}
+use Rattle.ending.specs.Ending.{Answer}
 use Rattle.edition.specs.declared.Edition.{Edition}
 use Rattle.edition.specs.declared.Edition.TheVariants.{Shipped, Mended}
 use Rattle.number.specs.declared.Number.{Number}
 use Rattle.number.specs.Number.{mantissa}
 use Rattle.number.specs.Restack.{restacked, CountsAsZero}
 use Rattle.division.specs.Rounds.{Mantissas, rounds33}
-use Rattle.ending.specs.declared.answer.Answer.{Answer}
-use Rattle.ending.specs.declared.answer.Answer.TheVariants.{Done, TooBig}
 
 -- Document 01: "Rounded to nearest, halves up, is the floor of the value plus one half." The value is v / n.
 abbrev pub nearest : ℕ → ℕ → ℕ
@@ -48,9 +47,9 @@ module _ (m n : ℕ) where
   pub record Demand3 (ed : Edition) (a b : ℕ) (answer : Answer) : Type 0 where
     pub digits : Digits
     -- "Division gives report 6 exactly when E is above 255."
-    pub report6 : (answer ≡ TooBig) ↔ (255 + b < a + added)
+    pub report6 : (answer ≡ None) ↔ (255 + b < a + added)
     -- "When E is 1 to 255, [the result]"
-    pub result : (E : ℕ) → E + b ≡ a + added → 1 ≤ E → E ≤ 255 → (number : Number) × (answer ≡ Done number) × Result ed E number
+    pub result : (E : ℕ) → E + b ≡ a + added → 1 ≤ E → E ≤ 255 → (number : Number) × (answer ≡ Some number) × Result ed E number
 
 -- "number too big: division when the divisor counts as zero, or an exponent byte above 255": where neither counts as zero, E's
 abbrev pub QuotientTooBig : Number → Number → Type 0

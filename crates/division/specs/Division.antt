@@ -1,13 +1,11 @@
 -- Document 01, "Division (001, 000)". Which edition it is decides the 34th digit alone.
-use Rattle.std.specs.Prelude.{cond, ℕ, ◌+◌, ◌*◌, ◌-◌, ◌/◌, ◌%◌, eqb}
+use Rattle.std.specs.Prelude.{cond, ℕ, ◌+◌, ◌*◌, ◌-◌, ◌/◌, ◌%◌, eqb, Some, None}
 use Rattle.edition.specs.declared.Edition.{Edition}
 use Rattle.number.specs.declared.Number.{Number}
 use Rattle.number.specs.Number.{zeros, sign, mantissa}
 use Rattle.number.specs.Restack.{restacked}
-use Rattle.ending.specs.Ending.{ended}
+use Rattle.ending.specs.Ending.{ended, Answer}
 use Rattle.division.specs.Rounds.{Trial, rounds33, digit34}
-use Rattle.ending.specs.declared.answer.Answer.{Answer}
-use Rattle.ending.specs.declared.answer.Answer.TheVariants.{Done, TooBig}
 
 -- "The first 32 digits are T; digit 33 is the first rounding digit. The 34th" is the second. "Then the ending."
 abbrev pub ended_rounds : Edition → ℕ → ℕ → ℕ → Trial → Answer
@@ -22,7 +20,7 @@ full_quotient ed x y =
 -- "A divisor of zero is report 6, before the dividend is looked at; a zero dividend then gives five zero bytes." Of re-stacked numbers the zero is the
 -- one whose exponent byte is 0.
 unfoldable pub restacked_quotient : Edition → Number → Number → Answer
-restacked_quotient ed x y = cond (eqb y.b1 0) TooBig (cond (eqb x.b1 0) (Done zeros) (full_quotient ed x y))
+restacked_quotient ed x y = cond (eqb y.b1 0) None (cond (eqb x.b1 0) (Some zeros) (full_quotient ed x y))
 
 -- "Re-stack both."
 unfoldable pub quotient_of : Edition → Number → Number → Answer

@@ -6,7 +6,6 @@ ghost use Rattle.division.specs.Rounds.{rounds33, digit34};
 ghost use Rattle.division.specs.Division.{restacked_quotient};
 
 use edition::Edition;
-use ending::Answer;
 use number::Number;
 
 // The 33 digits of the mantissas' quotient, read as one binary number. A mantissa's top bit goes without saying. It is set here, which also spares
@@ -41,16 +40,16 @@ fn next_digit(edition: Edition, m: u32, n: u32) -> u64
 
 // Of re-stacked numbers, each by a word with its sign on top, its mantissa, and its exponent byte as the low byte of a word. The compiler knows that an
 // operand's has nothing above it, and drops the remainder; of a byte it would not know that it stands in a whole register.
-pub fn division(edition: Edition, s: u32, m: u32, e: u32, t: u32, n: u32, f: u32) -> Answer
+pub fn division(edition: Edition, s: u32, m: u32, e: u32, t: u32, n: u32, f: u32) -> Option<Number>
     ensures { result ≡ restacked_quotient edition (full_of (s / 2 ^ 31) (e % 256) m) (full_of (t / 2 ^ 31) (f % 256) n) }
 {
     let first = e % 256;
     let second = f % 256;
     if second == 0 {
-        return Answer::TooBig;
+        return None;
     }
     if first == 0 {
-        return Answer::Done(Number { b1: 0, word: 0 });
+        return Some(Number { b1: 0, word: 0 });
     }
     let q = digits(m, n);
     let sign = (s ^ t) / 2147483648;

@@ -1,5 +1,5 @@
 -- The ending's laws: a law for each way through its definitions.
-use Rattle.std.specs.Prelude.{◌≡◌, ◌⊎◌, Bool, ℕ, zero, suc, ◌+◌, ◌*◌, ◌-◌, ◌^◌, ◌%◌, ◌≤◌, ◌<◌, ltb, eqb}
+use Rattle.std.specs.Prelude.{◌≡◌, ◌⊎◌, Bool, ℕ, zero, suc, ◌+◌, ◌*◌, ◌-◌, ◌^◌, ◌%◌, ◌≤◌, ◌<◌, ltb, eqb, Some, None}
 use Rattle.std.proofs.Math.Path.{refl, ap}
 use Rattle.std.proofs.Common.{sym, ◌∙◌, inl, inr, eq-zero-or-pos, sub-one}
 use Rattle.std.proofs.Math.Bool.{true, false, cond}
@@ -7,9 +7,7 @@ use native.Mathlib.Omega.{arith}
 use borrow.Author.Tests.{lt-ltb, le-ltb, eq-eqb, ne_eqb, ltb-true, ltb-false}
 use Rattle.number.specs.declared.Number.{Number}
 use Rattle.number.specs.Number.{number, zeros, full_of}
-use Rattle.ending.specs.Ending.{Loose, loose, doubled, normal, rounded, closed, ended}
-use Rattle.ending.specs.declared.answer.Answer.{Answer}
-use Rattle.ending.specs.declared.answer.Answer.TheVariants.{Done, TooBig}
+use Rattle.ending.specs.Ending.{Loose, loose, doubled, normal, rounded, closed, ended, Answer}
 
 -- the top bit is set: nothing is doubled
 pub normal_set : (places : ℕ) (l : Loose) → 2 ^ 31 ≤ l.t → normal places l ≡ l
@@ -57,21 +55,21 @@ pub sum_rounded_below : (t e : ℕ) → t < 2 ^ 32 → rounded (normal 31 (loose
 sum_rounded_below t e h = rounded_below 31 (loose t e 0) (omega arith) (omega arith)
 
 module _ (s : ℕ) (l : Loose) where
-  pub closed_too_big : 511 < l.e → closed s l ≡ TooBig
+  pub closed_too_big : 511 < l.e → closed s l ≡ None
   unfolding closed
   closed_too_big h = simp (lt-ltb _ _ h)
 
-  pub closed_below_zero : l.e < 256 → closed s l ≡ Done zeros
+  pub closed_below_zero : l.e < 256 → closed s l ≡ Some zeros
   unfolding closed
   closed_below_zero h = let g : l.e ≤ 511 = omega arith in simp (le-ltb _ _ g, lt-ltb _ _ h)
 
-  pub closed_smallest : l.e ≡ 256 → closed s l ≡ Done (full_of s 1 (2 ^ 31))
+  pub closed_smallest : l.e ≡ 256 → closed s l ≡ Some (full_of s 1 (2 ^ 31))
   unfolding closed
   closed_smallest h =
       let g : l.e ≤ 511 = omega arith in let k : 256 ≤ l.e = omega arith in
       simp (le-ltb _ _ g, le-ltb _ _ k, eq-eqb _ _ h)
 
-  pub closed_stored : 256 < l.e → l.e ≤ 511 → closed s l ≡ Done (full_of s (l.e - 256) (rounded l))
+  pub closed_stored : 256 < l.e → l.e ≤ 511 → closed s l ≡ Some (full_of s (l.e - 256) (rounded l))
   unfolding closed
   closed_stored h g =
       let k : 256 ≤ l.e = omega arith in let f : l.e ≡ 256 → ⊥ = omega arith in
@@ -82,18 +80,18 @@ module _ (s : ℕ) (l : Loose) where
   unfolding closed
   closed_rounded =
       let same : rounded l + 0 % 2 ≡ rounded l = omega arith in
-      ap (λ (m : ℕ). cond (ltb (255 + 256) l.e) TooBig (cond (ltb l.e 256) (Done zeros) (cond (eqb l.e 256) (Done (full_of s 1 (2 ^ 31))) (Done (full_of s (l.e - 256) m))))) same
+      ap (λ (m : ℕ). cond (ltb (255 + 256) l.e) None (cond (ltb l.e 256) (Some zeros) (cond (eqb l.e 256) (Some (full_of s 1 (2 ^ 31))) (Some (full_of s (l.e - 256) m))))) same
 
   -- no other way out is report 6
-  pub closed_too_big_only : closed s l ≡ TooBig → 511 < l.e
+  pub closed_too_big_only : closed s l ≡ None → 511 < l.e
   unfolding closed
   closed_too_big_only h = ltb-true _ _ (first _ _ (done (ltb l.e 256) (eqb l.e 256) _ _ _) h)
     where
-      first : (b : Bool) (r : Answer) → ¬ (r ≡ TooBig) → cond b TooBig r ≡ TooBig → b ≡ true
+      first : (b : Bool) (r : Answer) → ¬ (r ≡ None) → cond b None r ≡ None → b ≡ true
       first true r f e = refl
       first false r f e = absurd (f e)
 
-      done : (b c : Bool) (x y z : Number) → ¬ (cond b (Done x) (cond c (Done y) (Done z)) ≡ TooBig)
+      done : (b c : Bool) (x y z : Number) → ¬ (cond b (Some x) (cond c (Some y) (Some z)) ≡ None)
       done true c x y z e = let o : ◌≡◌ {A = ℕ} 0 1 = cc in omega arith
       done false true x y z e = let o : ◌≡◌ {A = ℕ} 0 1 = cc in omega arith
       done false false x y z e = let o : ◌≡◌ {A = ℕ} 0 1 = cc in omega arith
@@ -111,10 +109,10 @@ pub closed_low_bits : (s t e : ℕ) → closed s (loose t e 0) ≡ closed s (loo
 unfolding closed
 closed_low_bits s t e =
     let same : (t + 0) % 2 ^ 31 ≡ (t % 2 ^ 31 + 0) % 2 ^ 31 = omega arith in
-    ap (λ (m : ℕ). cond (ltb (255 + 256) e) TooBig (cond (ltb e 256) (Done zeros) (cond (eqb e 256) (Done (full_of s 1 (2 ^ 31))) (Done (number (e - 256) (m + 2 ^ 31 * (s % 2))))))) same
+    ap (λ (m : ℕ). cond (ltb (255 + 256) e) None (cond (ltb e 256) (Some zeros) (cond (eqb e 256) (Some (full_of s 1 (2 ^ 31))) (Some (number (e - 256) (m + 2 ^ 31 * (s % 2))))))) same
 
 module _ (s t e digits : ℕ) where
-  pub ended_zero : t ≡ 0 → ended s t e digits ≡ Done zeros
+  pub ended_zero : t ≡ 0 → ended s t e digits ≡ Some zeros
   unfolding ended
   ended_zero h = simp (eq-eqb _ _ h)
 
@@ -123,17 +121,17 @@ module _ (s t e digits : ℕ) where
   ended_other f = simp (ne_eqb _ _ f)
 
   -- an exponent below 0 stays there
-  pub ended_below : e < 256 → ended s t e digits ≡ Done zeros
+  pub ended_below : e < 256 → ended s t e digits ≡ Some zeros
   ended_below h = go (eq-zero-or-pos t)
     where
-      go : (t ≡ 0) ⊎ (0 < t) → ended s t e digits ≡ Done zeros
+      go : (t ≡ 0) ⊎ (0 < t) → ended s t e digits ≡ Some zeros
       go (inl z) = ended_zero z
       go (inr p) =
           let n = normal_exponent 31 (loose t e digits) in
           ended_other (omega arith) ∙ closed_below_zero s (normal 31 (loose t e digits)) (omega arith)
 
   -- an exponent up to 255 stays there
-  pub ended_too_big_only : ended s t e digits ≡ TooBig → 511 < e
+  pub ended_too_big_only : ended s t e digits ≡ None → 511 < e
   ended_too_big_only h = go (eq-zero-or-pos t)
     where
       go : (t ≡ 0) ⊎ (0 < t) → 511 < e

@@ -1,9 +1,8 @@
 -- What the ending gives is five zero bytes or a full number: never a short one, and never odd.
-use Rattle.std.specs.Prelude.{ℕ, ◌+◌, ◌-◌, ◌^◌, ◌≡◌, refl, Bool, true, false, cond, ltb, eqb}
+use Rattle.std.specs.Prelude.{ℕ, ◌+◌, ◌-◌, ◌^◌, ◌≡◌, refl, Bool, true, false, cond, ltb, eqb, Some, None}
 use Rattle.std.proofs.Common.{inl, inr, arith, ltb-false}
 use Rattle.std.proofs.lemmas.Bool.{eqb-false}
 use Rattle.number.specs.Number.{zeros, full_of}
-use Rattle.ending.specs.declared.answer.Answer.TheVariants.{Done, TooBig}
 use Rattle.ending.specs.Ending.{Loose, loose, normal, rounded, closed, ended}
 use Rattle.ending.specs.Ends.{ZeroOrFull}
 
@@ -12,7 +11,7 @@ unfolding closed
 closed_zero_or_full s l = go (ltb (255 + 256) l.e) (ltb l.e 256) (eqb l.e 256) refl refl
   where
     go : (a b c : Bool) → ltb l.e 256 ≡ b → eqb l.e 256 ≡ c
-        → ZeroOrFull (cond a TooBig (cond b (Done zeros) (cond c (Done (full_of s 1 (2 ^ 31))) (Done (full_of s (l.e - 256) (rounded l))))))
+        → ZeroOrFull (cond a None (cond b (Some zeros) (cond c (Some (full_of s 1 (2 ^ 31))) (Some (full_of s (l.e - 256) (rounded l))))))
     go true b c p q = tt
     go false true c p q = inl refl
     go false false true p q = inr (omega arith)
@@ -22,6 +21,6 @@ pub ended_zero_or_full : (s t e digits : ℕ) → ZeroOrFull (ended s t e digits
 unfolding ended
 ended_zero_or_full s t e digits = go (eqb t 0)
   where
-    go : (a : Bool) → ZeroOrFull (cond a (Done zeros) (closed s (normal 31 (loose t e digits))))
+    go : (a : Bool) → ZeroOrFull (cond a (Some zeros) (closed s (normal 31 (loose t e digits))))
     go true = inl refl
     go false = closed_zero_or_full s (normal 31 (loose t e digits))

@@ -1,10 +1,13 @@
 -- Document 01, "The ending": "An operation hands over a sign, a magnitude T below 2^32, an exponent e, and rounding digits (none for addition)."
 -- The exponent is kept as e + 256 here, which is never below 0, and the rounding digits as a number whose lowest binary digit is the next one: so
 -- it is 0 when there is none.
-use Rattle.std.specs.Prelude.{cond, ℕ, zero, suc, ◌+◌, ◌*◌, ◌-◌, ◌^◌, ◌/◌, ◌%◌, ltb, eqb}
+use Rattle.std.specs.Prelude.{cond, ℕ, zero, suc, ◌+◌, ◌*◌, ◌-◌, ◌^◌, ◌/◌, ◌%◌, ltb, eqb, Some, None, Option}
+use Rattle.number.specs.declared.Number.{Number}
 use Rattle.number.specs.Number.{zeros, full_of}
-use Rattle.ending.specs.declared.answer.Answer.{Answer}
-use Rattle.ending.specs.declared.answer.Answer.TheVariants.{Done, TooBig}
+
+-- what an operation gives: a number, or none, which is report 6, "number too big"
+abbrev pub Answer : Type 0
+Answer = Option Number
 
 -- a magnitude whose top bit may be clear, its exponent + 256, and the rounding digits
 pub record Loose : Type 0 where
@@ -32,11 +35,11 @@ rounded l = l.t + l.digits % 2
 -- is added to T and the number stored with its sign." 01 00 00 00 00 and 01 80 00 00 00 have the mantissa 2^31.
 unfoldable pub closed : ℕ → Loose → Answer
 closed s l =
-    cond (ltb (255 + 256) l.e) TooBig
-    (cond (ltb l.e 256) (Done zeros)
-    (cond (eqb l.e 256) (Done (full_of s 1 (2 ^ 31)))
-    (Done (full_of s (l.e - 256) (rounded l)))))
+    cond (ltb (255 + 256) l.e) None
+    (cond (ltb l.e 256) (Some zeros)
+    (cond (eqb l.e 256) (Some (full_of s 1 (2 ^ 31)))
+    (Some (full_of s (l.e - 256) (rounded l)))))
 
 -- "If T is zero, the result is five zero bytes. Otherwise": a T of 1 or more has its top bit set after 31 places at most.
 unfoldable pub ended : ℕ → ℕ → ℕ → ℕ → Answer
-ended s t e digits = cond (eqb t 0) (Done zeros) (closed s (normal 31 (loose t e digits)))
+ended s t e digits = cond (eqb t 0) (Some zeros) (closed s (normal 31 (loose t e digits)))

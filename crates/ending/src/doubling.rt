@@ -3,7 +3,6 @@ ghost use Rattle.std.specs.Prelude.{◌≡◌, ◌≤◌};
 ghost use Rattle.ending.specs.Ending.{ended};
 ghost use Rattle.ending.specs.Shift.{taken_in};
 
-use crate::answer::Answer;
 use crate::closing::close;
 use number::Number;
 
@@ -23,17 +22,17 @@ fn taken_in(digits: u64, places: u32) -> u32
 }
 
 // An e below 0 comes to zero whatever t is, so the places are taken from no less than 0.
-pub fn ending(sign: u8, t: u32, e: u64, digits: u64) -> Answer
+pub fn ending(sign: u8, t: u32, e: u64, digits: u64) -> Option<Number>
     ensures { result ≡ ended sign t e digits }
 {
     if 2147483648 <= t {
         return close(sign, t, e, digits);
     }
     if t == 0 {
-        return Answer::Done(Number { b1: 0, word: 0 });
+        return Some(Number { b1: 0, word: 0 });
     }
     if e < 256 {
-        return Answer::Done(Number { b1: 0, word: 0 });
+        return Some(Number { b1: 0, word: 0 });
     }
     let places = number::leading_zeros(t);
     let fall = places as u64;

@@ -1,5 +1,6 @@
 -- Each way out of a literal's code, as a case of `operate_of`: what the code has found, and what the operation then answers and leaves.
-use Rattle.std.specs.Prelude.{ℕ, suc, ◌+◌, ◌-◌, ◌≤◌, ◌<◌, Bool, ◌||◌, List, get_or}
+use Rattle.std.specs.Prelude.{ℕ, suc, ◌+◌, ◌-◌, ◌≤◌, ◌<◌, Bool, ◌||◌, List, get_or, Some, None}
+use Rattle.ending.specs.Ending.{Answer}
 use Rattle.std.proofs.Math.Path.{◌≡◌, refl, ap}
 use Rattle.std.proofs.Common.{sym, ◌∙◌, ap₂, arith}
 use Rattle.std.proofs.Math.Bool.{true, false, cond}
@@ -8,8 +9,6 @@ use Rattle.std.proofs.Math.Dec.{ltb}
 use Rattle.edition.specs.declared.Edition.{Edition}
 use Rattle.number.specs.declared.Number.{Number}
 use Rattle.number.specs.Number.{number}
-use Rattle.ending.specs.declared.answer.Answer.{Answer}
-use Rattle.ending.specs.declared.answer.Answer.TheVariants.{Done, TooBig}
 use Rattle.slots.specs.Slots.{put_in, top, lower}
 use Rattle.slots.specs.SlotLaws.{number_kept}
 use Rattle.slots.specs.Reports.{over_limits}
@@ -85,22 +84,22 @@ module _ (ed : Edition) (s : List ℕ) (d l : ℕ) (f : Edition → Number → A
   one_malformed m = let h = has s d 1 a in way_malformed ed s d l (one f) 1 1 r refl h.0 h.1 refl (ap (malformed_in ed) (sym is_top) ∙ m)
 
   -- and is not too big
-  pub one_done : (n : Number) → malformed_in ed (number_at s d 0) ≡ false → f ed (number_at s d 0) ≡ Done n → operate_of ed s d l ≡ (outcome 0 d, put_at s d 0 n)
+  pub one_done : (n : Number) → malformed_in ed (number_at s d 0) ≡ false → f ed (number_at s d 0) ≡ Some n → operate_of ed s d l ≡ (outcome 0 d, put_at s d 0 n)
   unfolding not_in_table no_room_for malformed_operand too_big is_too_big bytes_after stored
   one_done n m b =
       let h = has s d 1 a in
-      let is : f ed (top s d) ≡ Done n = ap (f ed) (sym is_top) ∙ b in
+      let is : f ed (top s d) ≡ Some n = ap (f ed) (sym is_top) ∙ b in
       let same : d - 1 + 1 ≡ d = omega (arith, h) in
       way_done ed s d l (one f) 1 1 r refl h.0 h.1 refl (ap (malformed_in ed) (sym is_top) ∙ m) (simp is)
       ∙ simp (is, put_there s d 0 n a) (ap (λ (e : ℕ). (outcome 0 e, put_in s (d - 1) n)) same)
 
   -- by the parts that the code has read
-  pub one_put : {b w : ℕ} {n : Number} {s' : List ℕ} → b ≡ (number_at s d 0).b1 → w ≡ (number_at s d 0).word → malformed_in ed (number_at s d 0) ≡ false → f ed (number b w) ≡ Done n
+  pub one_put : {b w : ℕ} {n : Number} {s' : List ℕ} → b ≡ (number_at s d 0).b1 → w ≡ (number_at s d 0).word → malformed_in ed (number_at s d 0) ≡ false → f ed (number b w) ≡ Some n
       → s' ≡ put_at s d 0 n → operate_of ed s d l ≡ (outcome 0 d, s')
   one_put {n = n} i j m e p = one_done n m (ap (f ed) (sym (ap₂ number i j)) ∙ e) ∙ ap (λ (t : List ℕ). (outcome 0 d, t)) (sym p)
 
   -- and leaves it as it is
-  pub one_kept : ((k : ℕ) → get_or s k 0 < 256) → malformed_in ed (number_at s d 0) ≡ false → f ed (number_at s d 0) ≡ Done (number_at s d 0) → operate_of ed s d l ≡ (outcome 0 d, s)
+  pub one_kept : ((k : ℕ) → get_or s k 0 < 256) → malformed_in ed (number_at s d 0) ≡ false → f ed (number_at s d 0) ≡ Some (number_at s d 0) → operate_of ed s d l ≡ (outcome 0 d, s)
   one_kept b m e =
       let h = has s d 1 a in
       one_done (number_at s d 0) m e
@@ -130,11 +129,11 @@ module _ (ed : Edition) (s : List ℕ) (d l : ℕ) (f : Edition → Number → N
     answer : {x : Answer} → f ed (number_at s d 1) (number_at s d 0) ≡ x → f ed (lower s d) (top s d) ≡ x
     answer b = simp (sym is_lower, sym is_upper) b
 
-    pub two_too_big : f ed (number_at s d 1) (number_at s d 0) ≡ TooBig → operate_of ed s d l ≡ (outcome 6 d, s)
+    pub two_too_big : f ed (number_at s d 1) (number_at s d 0) ≡ None → operate_of ed s d l ≡ (outcome 6 d, s)
     unfolding not_in_table no_room_for malformed_operand too_big is_too_big
     two_too_big b = let h = has s d 2 a in way_too_big ed s d l (two f) 2 1 r refl h.0 h.1 refl (formed m) (simp (answer b))
 
-    pub two_done : (n : Number) → f ed (number_at s d 1) (number_at s d 0) ≡ Done n → operate_of ed s d l ≡ (outcome 0 (d - 1), put_at s d 1 n)
+    pub two_done : (n : Number) → f ed (number_at s d 1) (number_at s d 0) ≡ Some n → operate_of ed s d l ≡ (outcome 0 (d - 1), put_at s d 1 n)
     unfolding not_in_table no_room_for malformed_operand too_big is_too_big bytes_after stored
     two_done n b =
         let h = has s d 2 a in

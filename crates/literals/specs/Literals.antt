@@ -1,11 +1,10 @@
 -- Document 01, "Literals", and document 02, A1: the eleven literals, with what each does and how many numbers it takes and leaves.
-use Rattle.std.specs.Prelude.{ℕ, cond, List, [], ◌∷◌, eqb}
+use Rattle.std.specs.Prelude.{ℕ, cond, List, [], ◌∷◌, eqb, Some}
+use Rattle.ending.specs.Ending.{Answer}
 use Rattle.edition.specs.declared.Edition.{Edition}
 use Rattle.number.specs.declared.Number.{Number}
 use Rattle.number.specs.Restack.{restacked}
 use Rattle.number.specs.Negate.{negated}
-use Rattle.ending.specs.declared.answer.Answer.{Answer}
-use Rattle.ending.specs.declared.answer.Answer.TheVariants.{Done}
 use Rattle.addition.specs.Addition.{sum_of, difference_of}
 use Rattle.division.specs.Division.{quotient_of}
 use Rattle.multiplication.specs.Multiplication.{product_of}
@@ -39,11 +38,11 @@ table =
     ∷ row 4 (two (λ ed. product_of)) 2 1
     ∷ row 5 (two quotient_of) 2 1
     ∷ row 15 (two sum_of) 2 1
-    ∷ row 27 (one (λ ed x. Done (negated x))) 1 1
+    ∷ row 27 (one (λ ed x. Some (negated x))) 1 1
     ∷ row 39 (one int_of) 1 1
     ∷ row 49 duplicate 1 2
-    ∷ row 58 (one (λ ed x. Done (truncated ed x))) 1 1
-    ∷ row 61 (one (λ ed x. Done (restacked x))) 1 1
+    ∷ row 58 (one (λ ed x. Some (truncated ed x))) 1 1
+    ∷ row 61 (one (λ ed x. Some (restacked x))) 1 1
     ∷ []
 
 -- the row of a literal; one that is not in the table does nothing

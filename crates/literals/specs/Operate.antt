@@ -1,9 +1,8 @@
 -- What an operation leaves: report, depth and every byte of the stack.
 -- "A refusal returns its number and the old depth and changes no byte."
-use Rattle.std.specs.Prelude.{ℕ, ◌+◌, ◌-◌, List}
+use Rattle.std.specs.Prelude.{ℕ, ◌+◌, ◌-◌, List, Some, None}
+use Rattle.ending.specs.Ending.{Answer}
 use Rattle.edition.specs.declared.Edition.{Edition}
-use Rattle.ending.specs.declared.answer.Answer.{Answer}
-use Rattle.ending.specs.declared.answer.Answer.TheVariants.{Done, TooBig}
 use Rattle.slots.specs.declared.outcome.Outcome.{Outcome}
 use Rattle.slots.specs.Slots.{slot, put_slot, put_in, top, lower}
 use Rattle.slots.specs.Push.{settled}
@@ -15,8 +14,8 @@ outcome r d = record { report = r; depth = d }
 
 -- an answer stored in a slot
 unfoldable pub stored : List ℕ → ℕ → Answer → List ℕ
-stored s i (Done n) = put_in s i n
-stored s i TooBig = s
+stored s i (Some n) = put_in s i n
+stored s i None = s
 
 -- The bytes that an accepted operation leaves. "The lower operand is the first, and the result stands in its slot." "An operation
 -- that takes two and leaves one leaves the second's slot bytes as they were." "1 swaps and 49 copies all five bytes, and 2 changes no byte."

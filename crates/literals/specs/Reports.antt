@@ -1,12 +1,11 @@
 -- Document 01, "Reports, and which comes first": the reports of a literal. (Those of a stack and of a push are in crate slots.)
 -- "The order of checks is the order of the rows 1, 5, 2, 4, 3, 6. Each is given exactly then."
-use Rattle.std.specs.Prelude.{ℕ, Bool, true, false, ◌||◌, List, [], ◌∷◌, ltb, length}
+use Rattle.std.specs.Prelude.{ℕ, Bool, true, false, ◌||◌, List, [], ◌∷◌, ltb, length, Some, None}
+use Rattle.ending.specs.Ending.{Answer}
 use Rattle.edition.specs.declared.Edition.{Edition}
 use Rattle.edition.specs.declared.Edition.TheVariants.{Shipped, Mended}
 use Rattle.number.specs.declared.Number.{Number}
 use Rattle.number.specs.Number.{malformed, odd}
-use Rattle.ending.specs.declared.answer.Answer.{Answer}
-use Rattle.ending.specs.declared.answer.Answer.TheVariants.{Done, TooBig}
 use Rattle.slots.specs.Slots.{top, lower}
 use Rattle.slots.specs.Reports.{over_limits, no_room, When, when, first}
 use Rattle.literals.specs.Literals.{Operation, exchange, delete, duplicate, one, two, unknown, operation_of, takes}
@@ -48,8 +47,8 @@ malformed_operand ed duplicate s d = false
 malformed_operand ed unknown s d = false
 
 unfoldable pub is_too_big : Answer → Bool
-is_too_big TooBig = true
-is_too_big (Done n) = false
+is_too_big None = true
+is_too_big (Some n) = false
 
 -- 6: "number too big". The arithmetic says which: a divisor that counts as zero, or an exponent byte above 255.
 unfoldable pub too_big : Edition → Operation → List ℕ → ℕ → Bool

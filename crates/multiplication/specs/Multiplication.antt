@@ -1,12 +1,10 @@
 -- Document 02, A1: multiplication, literal 4.
-use Rattle.std.specs.Prelude.{Bool, cond, ◌&&◌, ◌||◌, ℕ, ◌+◌, ◌*◌, ◌-◌, ◌^◌, ◌%◌, leb, eqb}
+use Rattle.std.specs.Prelude.{Bool, cond, ◌&&◌, ◌||◌, ℕ, ◌+◌, ◌*◌, ◌-◌, ◌^◌, ◌%◌, leb, eqb, Some}
 use Rattle.number.specs.declared.Number.{Number}
 use Rattle.number.specs.Number.{zeros, sign, mantissa, short_magnitude, short_of}
 use Rattle.number.specs.Restack.{restacked}
-use Rattle.ending.specs.Ending.{Loose, loose, closed}
+use Rattle.ending.specs.Ending.{Loose, loose, closed, Answer}
 use Rattle.division.specs.Demand3.{nearest}
-use Rattle.ending.specs.declared.answer.Answer.{Answer}
-use Rattle.ending.specs.declared.answer.Answer.TheVariants.{Done}
 
 -- "the product of the two magnitudes [..] (odd counts as zero)": `odd_none` is the law that odd's magnitude is 0.
 abbrev pub short_product : Number → Number → ℕ
@@ -52,8 +50,8 @@ full_product x y =
 
 -- "if either counts as zero the answer is five zero bytes": of re-stacked numbers the zero is the one whose exponent byte is 0.
 unfoldable pub restacked_product : Number → Number → Answer
-restacked_product x y = cond (eqb x.b1 0 || eqb y.b1 0) (Done zeros) (full_product x y)
+restacked_product x y = cond (eqb x.b1 0 || eqb y.b1 0) (Some zeros) (full_product x y)
 
 -- "Otherwise re-stack both"
 unfoldable pub product_of : Number → Number → Answer
-product_of x y = cond (stays_short x y) (Done (short_stored (sign_of_two x y) (short_product x y))) (restacked_product (restacked x) (restacked y))
+product_of x y = cond (stays_short x y) (Some (short_stored (sign_of_two x y) (short_product x y))) (restacked_product (restacked x) (restacked y))

@@ -1,12 +1,11 @@
 -- Multiplication's laws: a law for each way through the definition, and what P and the mantissa lie between.
-use Rattle.std.specs.Prelude.{◌≡◌, refl, Bool, true, false, cond, ℕ, ◌+◌, ◌*◌, ◌-◌, ◌^◌, ◌/◌, ◌%◌, ◌≤◌, ◌<◌, leb, eqb}
+use Rattle.std.specs.Prelude.{◌≡◌, refl, Bool, true, false, cond, ℕ, ◌+◌, ◌*◌, ◌-◌, ◌^◌, ◌/◌, ◌%◌, ◌≤◌, ◌<◌, leb, eqb, Some}
 use Rattle.std.proofs.Common.{◌∙◌, ap, ap₂, mul-le-mul, arith}
 use Rattle.std.proofs.Math.Bool.{and-eq-true_iff}
 use borrow.Author.Tests.{lt-leb, le-leb, eq-eqb, ne_eqb, leb-true, leb-false, eqb-true, eqb-false}
 use Rattle.number.specs.declared.Number.{Number}
 use Rattle.number.specs.Number.{zeros, mantissa}
 use Rattle.number.specs.Restack.{restacked}
-use Rattle.ending.specs.declared.answer.Answer.TheVariants.{Done}
 use Rattle.ending.specs.Ending.{loose, closed}
 use Rattle.ending.proofs.EndingLaws.{closed_any, closed_low_bits}
 use Rattle.division.specs.Demand3.{nearest}
@@ -19,7 +18,7 @@ pub both_zero : (x y : Number) → both_short x y ≡ true → (x.b1 ≡ 0) × (
 both_zero x y h = let p = (and-eq-true_iff (eqb x.b1 0) (eqb y.b1 0)).0 h in (eqb-true _ _ p.0, eqb-true _ _ p.1)
 
 module _ (x y : Number) where
-  pub product_short : x.b1 ≡ 0 → y.b1 ≡ 0 → short_product x y ≤ 65535 → product_of x y ≡ Done (short_stored (sign_of_two x y) (short_product x y))
+  pub product_short : x.b1 ≡ 0 → y.b1 ≡ 0 → short_product x y ≤ 65535 → product_of x y ≡ Some (short_stored (sign_of_two x y) (short_product x y))
   unfolding product_of
   product_short h g l = simp (eq-eqb x.b1 0 h, eq-eqb y.b1 0 g, le-leb (short_product x y) 65535 l)
 
@@ -32,11 +31,11 @@ module _ (x y : Number) where
   product_restacked h = simp h
 
   -- of re-stacked numbers
-  pub zero_first : x.b1 ≡ 0 → restacked_product x y ≡ Done zeros
+  pub zero_first : x.b1 ≡ 0 → restacked_product x y ≡ Some zeros
   unfolding restacked_product
   zero_first h = simp (eq-eqb x.b1 0 h)
 
-  pub zero_second : (x.b1 ≡ 0 → ⊥) → y.b1 ≡ 0 → restacked_product x y ≡ Done zeros
+  pub zero_second : (x.b1 ≡ 0 → ⊥) → y.b1 ≡ 0 → restacked_product x y ≡ Some zeros
   unfolding restacked_product
   zero_second h g = simp (ne_eqb x.b1 0 h, eq-eqb y.b1 0 g)
 

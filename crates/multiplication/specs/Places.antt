@@ -1,6 +1,7 @@
 -- A product as the code takes it: of whole numbers that need not be made normal first. It has so many places to its top bit, of 64, and the exponent is lower by
 -- as many.
-use Rattle.std.specs.Prelude.{ℕ, ◌+◌, ◌*◌, ◌-◌, ◌^◌, ◌/◌, ◌%◌, ◌≤◌, ◌<◌, ◌≡◌, refl, ◌⊎◌, Bool, true, false, cond, leb, eqb}
+use Rattle.std.specs.Prelude.{ℕ, ◌+◌, ◌*◌, ◌-◌, ◌^◌, ◌/◌, ◌%◌, ◌≤◌, ◌<◌, ◌≡◌, refl, ◌⊎◌, Bool, true, false, cond, leb, eqb, Some}
+use Rattle.ending.specs.Ending.{Answer}
 use Rattle.std.proofs.Common.{sym, ◌∙◌, ap, ap₂, inl, inr, mul_assoc, mul-le-mul, mul-le-mul_left, eq-zero-or-pos, mul-zero, arith, eq-eqb, ne_eqb, leb-true, leb-false, pow-add, pow_pos}
 use Rattle.std.specs.Int.Count.{count_leading_zeros}
 use Rattle.number.specs.declared.Number.{Number}
@@ -10,8 +11,6 @@ use Rattle.number.specs.LeadingZeros.{top_set, places_are, zeros_of}
 use Rattle.number.specs.Restack.{full_of_short, restacked}
 use Rattle.number.proofs.RestackLaws.{restack_full, restack_some, restack_zero}
 use Rattle.number.proofs.RestackValueLaws.{full_of_short_lem}
-use Rattle.ending.specs.declared.answer.Answer.{Answer}
-use Rattle.ending.specs.declared.answer.Answer.TheVariants.{Done}
 use Rattle.division.specs.Demand3.{nearest}
 use Rattle.division.specs.Operand.{IsFull}
 use Rattle.multiplication.specs.Multiplication.{sign_of_two, ended_product, restacked_product, product_of}
@@ -23,10 +22,10 @@ rounded_at p z = (p * 2 ^ z / 2 ^ 31 + 1) / 2
 
 -- p times 2^(e - 320), where e is a sum of two exponent bytes: A1's 128 is taken from it, and the ending's 256 is added.
 unfoldable pub product_at : ℕ → ℕ → ℕ → Answer
-product_at s p e = cond (eqb p 0) (Done zeros) (ended_product s (rounded_at p (count_leading_zeros 64 p)) (e + 128 - count_leading_zeros 64 p))
+product_at s p e = cond (eqb p 0) (Some zeros) (ended_product s (rounded_at p (count_leading_zeros 64 p)) (e + 128 - count_leading_zeros 64 p))
 
 module _ (s p e : ℕ) where
-  pub at_zero : p ≡ 0 → product_at s p e ≡ Done zeros
+  pub at_zero : p ≡ 0 → product_at s p e ≡ Some zeros
   unfolding product_at
   at_zero h = simp (eq-eqb p 0 h)
 

@@ -1,11 +1,10 @@
 -- What A1 asks to be shown, and what the digits of a product are, in whole numbers. P, here p, is the product of the re-stacked mantissas, and a and b are
 -- the re-stacked exponent bytes.
-use Rattle.std.specs.Prelude.{◌≡◌, ◌↔◌, ◌⊎◌, ℕ, ◌+◌, ◌*◌, ◌-◌, ◌^◌, ◌≤◌, ◌<◌}
+use Rattle.std.specs.Prelude.{◌≡◌, ◌↔◌, ◌⊎◌, ℕ, ◌+◌, ◌*◌, ◌-◌, ◌^◌, ◌≤◌, ◌<◌, Some, None}
+use Rattle.ending.specs.Ending.{Answer}
 use Rattle.number.specs.declared.Number.{Number}
 use Rattle.number.specs.Number.{sign, mantissa}
 use Rattle.number.specs.Restack.{restacked, CountsAsZero}
-use Rattle.ending.specs.declared.answer.Answer.{Answer}
-use Rattle.ending.specs.declared.answer.Answer.TheVariants.{Done, TooBig}
 use Rattle.division.specs.Demand3.{nearest}
 use Rattle.multiplication.specs.Multiplication.{taken}
 
@@ -32,5 +31,5 @@ pub record Result (a b p s : ℕ) (number : Number) : Type 0 where
 
 -- E, before the rounding, is any natural number that makes a + b with 128 or 129; below 0 there is none.
 pub record Products (a b p s : ℕ) (answer : Answer) : Type 0 where
-  pub report6 : (answer ≡ TooBig) ↔ Overflows a b p
-  pub result : (E : ℕ) → E + taken p ≡ a + b → 1 ≤ E → ¬ Overflows a b p → (number : Number) × (answer ≡ Done number) × Result a b p s number
+  pub report6 : (answer ≡ None) ↔ Overflows a b p
+  pub result : (E : ℕ) → E + taken p ≡ a + b → 1 ≤ E → ¬ Overflows a b p → (number : Number) × (answer ≡ Some number) × Result a b p s number

@@ -1,5 +1,5 @@
 -- The theorems of `Rounding` hold of any two numbers.
-use Rattle.std.specs.Prelude.{◌≡◌, refl, ◌↔◌, ◌⊎◌, Bool, true, false, cond, ℕ, ◌+◌, ◌*◌, ◌-◌, ◌^◌, ◌/◌, ◌%◌, ◌≤◌, ◌<◌, ltb, leb, eqb}
+use Rattle.std.specs.Prelude.{◌≡◌, refl, ◌↔◌, ◌⊎◌, Bool, true, false, cond, ℕ, ◌+◌, ◌*◌, ◌-◌, ◌^◌, ◌/◌, ◌%◌, ◌≤◌, ◌<◌, ltb, leb, eqb, Some, None}
 use Rattle.std.proofs.Common.{sym, ◌∙◌, ap, ap₂, subst, inl, inr, ⊎_elim, mul-le-mul, eq-zero-or-pos, arith, leb-true, leb-false, ltb-true, ltb-false, eqb-true}
 use Rattle.std.proofs.lemmas.Bool.{eqb-false}
 use Rattle.number.specs.declared.Number.{Number}
@@ -9,9 +9,7 @@ use Rattle.number.specs.Restack.{full_of_short, restacked, CountsAsZero}
 use Rattle.number.proofs.RestackLaws.{restack_full, restack_some, restack_zero}
 use Rattle.number.proofs.RestackValueLaws.{full_of_short_lem, restacked_sign}
 use Rattle.number.proofs.RestackNegated.{short_parts}
-use Rattle.ending.specs.declared.answer.Answer.{Answer}
-use Rattle.ending.specs.declared.answer.Answer.TheVariants.{Done, TooBig}
-use Rattle.ending.specs.Ending.{loose, closed}
+use Rattle.ending.specs.Ending.{loose, closed, Answer}
 use Rattle.ending.proofs.EndingLaws.{closed_too_big, closed_too_big_only, closed_stored}
 use Rattle.division.specs.Demand3.{nearest}
 use Rattle.division.specs.Operand.{IsFull, restacked_full}
@@ -109,7 +107,7 @@ module _ (x y : Number) (f : IsFull x) (g : IsFull y) where
 
   -- The full route, whether or not it is taken: its number is full.
   full_result : (E : ℕ) → E + taken p ≡ x.b1 + y.b1 → 1 ≤ E → ¬ Overflows x.b1 y.b1 p
-      → (number : Number) × (restacked_product x y ≡ Done number) × Result x.b1 y.b1 p s number
+      → (number : Number) × (restacked_product x y ≡ Some number) × Result x.b1 y.b1 p s number
   full_result E h one fit =
       let c = carry in
       let n = e + m / 2 ^ 32 - 256 in
@@ -119,11 +117,11 @@ module _ (x y : Number) (f : IsFull x) (g : IsFull y) where
         number,
         high_closed (omega arith)
             ∙ closed_stored s (loose (m % 2 ^ 31) (e + m / 2 ^ 32) 0) (omega arith) (omega arith)
-            ∙ ap (λ (t : ℕ). Done (full_of s n t)) {x = m % 2 ^ 31 + 0 % 2} {y = m % 2 ^ 31} (omega arith),
+            ∙ ap (λ (t : ℕ). Some (full_of s n t)) {x = m % 2 ^ 31 + 0 % 2} {y = m % 2 ^ 31} (omega arith),
         record { rounded = subst (Rounded x.b1 y.b1 p) (sym (restack_full number (omega arith))) (c.stored n (omega arith)); signs = sign_full s n (m % 2 ^ 31) (omega arith) },
       )
 
-  full_report6 : (restacked_product x y ≡ TooBig) ↔ Overflows x.b1 y.b1 p
+  full_report6 : (restacked_product x y ≡ None) ↔ Overflows x.b1 y.b1 p
   full_report6 = (
     (λ h. by (ltb 256 e) refl h),
     (λ o.
@@ -132,7 +130,7 @@ module _ (x y : Number) (f : IsFull x) (g : IsFull y) where
         high_closed (omega arith) ∙ closed_too_big s (loose (m % 2 ^ 31) (e + m / 2 ^ 32) 0) c),
   )
     where
-      by : (b : Bool) → ltb 256 e ≡ b → restacked_product x y ≡ TooBig → Overflows x.b1 y.b1 p
+      by : (b : Bool) → ltb 256 e ≡ b → restacked_product x y ≡ None → Overflows x.b1 y.b1 p
       by true i h = carry.over.0 (closed_too_big_only s (loose (m % 2 ^ 31) (e + m / 2 ^ 32) 0) (sym (high_closed (ltb-true _ _ i)) ∙ h))
       by false i h =
           let low = ltb-false 256 e i in
@@ -199,22 +197,22 @@ module _ (x y : Number) (bx : Bytes x) (by : Bytes y) (nx : ¬ CountsAsZero x) (
       go false d i j = subst (Products a b P (sign_of_two x y)) (sym (product_restacked x y i)) by_full
 
 -- a number by the full route is a number by either
-restacked_done : (x y : Number) {n : Number} → restacked_product (restacked x) (restacked y) ≡ Done n → (m : Number) × (product_of x y ≡ Done m)
+restacked_done : (x y : Number) {n : Number} → restacked_product (restacked x) (restacked y) ≡ Some n → (m : Number) × (product_of x y ≡ Some m)
 unfolding product_of
 restacked_done x y {n} h = go (stays_short x y)
   where
-    go : (c : Bool) → (m : Number) × (cond c (Done (short_stored (sign_of_two x y) (short_product x y))) (restacked_product (restacked x) (restacked y)) ≡ Done m)
+    go : (c : Bool) → (m : Number) × (cond c (Some (short_stored (sign_of_two x y) (short_product x y))) (restacked_product (restacked x) (restacked y)) ≡ Some m)
     go true = (short_stored (sign_of_two x y) (short_product x y), refl)
     go false = (n, h)
 
-done_only : {r : Answer} → (m : Number) × (r ≡ Done m) → ¬ (r ≡ TooBig)
+done_only : {r : Answer} → (m : Number) × (r ≡ Some m) → ¬ (r ≡ None)
 done_only d t = let o : ◌≡◌ {A = ℕ} 0 1 = cc (d.1, t) in omega arith
 
 -- report 6 of any two
-pub product_too_big : (x y : Number) → Bytes x → Bytes y → (product_of x y ≡ TooBig) ↔ ProductTooBig x y
+pub product_too_big : (x y : Number) → Bytes x → Bytes y → (product_of x y ≡ None) ↔ ProductTooBig x y
 product_too_big x y bx by = ((λ h. only h (eq-zero-or-pos (restacked x).b1) (eq-zero-or-pos (restacked y).b1)), (λ t. (products x y bx by t.0 t.1).report6.1 t.2))
   where
-    only : product_of x y ≡ TooBig → ((restacked x).b1 ≡ 0) ⊎ (0 < (restacked x).b1) → ((restacked y).b1 ≡ 0) ⊎ (0 < (restacked y).b1) → ProductTooBig x y
+    only : product_of x y ≡ None → ((restacked x).b1 ≡ 0) ⊎ (0 < (restacked x).b1) → ((restacked y).b1 ≡ 0) ⊎ (0 < (restacked y).b1) → ProductTooBig x y
     only h (inl z) q = absurd (done_only (restacked_done x y (zero_first (restacked x) (restacked y) z)) h)
     only h (inr p) (inl z) = absurd (done_only (restacked_done x y (zero_second (restacked x) (restacked y) (omega arith) z)) h)
     only h (inr p) (inr q) =

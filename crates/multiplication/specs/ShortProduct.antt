@@ -1,5 +1,5 @@
 -- The product of two short numbers is exact: nothing is rounded, and the full route makes of them the full number of its value.
-use Rattle.std.specs.Prelude.{◌≡◌, Bool, true, false, ◌||◌, ℕ, ◌+◌, ◌*◌, ◌-◌, ◌^◌, ◌/◌, ◌%◌, ◌≤◌, ◌<◌}
+use Rattle.std.specs.Prelude.{◌≡◌, Bool, true, false, ◌||◌, ℕ, ◌+◌, ◌*◌, ◌-◌, ◌^◌, ◌/◌, ◌%◌, ◌≤◌, ◌<◌, Some}
 use Rattle.std.proofs.Common.{sym, ◌∙◌, ap, ap₂, mul_right_comm, mul-le-mul, mul_assoc, zero-mul, mul-zero, arith, eq-eqb, ne_eqb, pow-add}
 use Rattle.std.specs.Int.Count.{count_leading_zeros}
 use Rattle.number.specs.declared.Number.{Number}
@@ -9,7 +9,6 @@ use Rattle.number.specs.LeadingZeros.{top_set, places_are, zeros_of}
 use Rattle.number.specs.Restack.{full_of_short, restacked}
 use Rattle.number.proofs.RestackLaws.{restack_some}
 use Rattle.number.proofs.RestackValueLaws.{full_of_short_lem}
-use Rattle.ending.specs.declared.answer.Answer.TheVariants.{Done}
 use Rattle.ending.specs.Ending.{loose, closed}
 use Rattle.ending.proofs.EndingLaws.{closed_stored}
 use Rattle.multiplication.specs.declared.product.Product.{Product}
@@ -20,7 +19,7 @@ use Rattle.multiplication.specs.MultiplicationLaws.{product_short, product_beyon
 -- what the code answers of two numbers whose b1 is 0
 pub record Multiplied (x y : Number) (r : Product) : Type 0 where
   pub form : r.malformed ≡ malformed x || malformed y
-  pub is : malformed x || malformed y ≡ false → product_of x y ≡ Done (number r.b1 r.word)
+  pub is : malformed x || malformed y ≡ false → product_of x y ≡ Some (number r.b1 r.word)
 
 abbrev pub product : Bool → ℕ → ℕ → Product
 product m b w = record { malformed = m; b1 = b; word = w }
@@ -29,7 +28,7 @@ pub multiplied_malformed : (x y : Number) → malformed x || malformed y ≡ tru
 multiplied_malformed x y h = record { form = sym h; is = λ f. absurd (let z : ◌≡◌ {A = ℕ} 0 1 = cc (h, f) in omega arith) }
 
 -- A whole number below 2^32, from 1 on, times 2^0: the full number that stands for it.
-whole_at : (s q : ℕ) → 0 < q → q < 2 ^ 32 → product_at s q 320 ≡ Done (full_of_short s q)
+whole_at : (s q : ℕ) → 0 < q → q < 2 ^ 32 → product_at s q 320 ≡ Some (full_of_short s q)
 unfolding full_of_short
 whole_at s q h l =
     let z = count_leading_zeros 32 q in
@@ -46,11 +45,11 @@ whole_at s q h l =
     ∙ ended_high s m (416 - z) (omega arith) (omega arith)
     ∙ ap (λ (k : ℕ). closed s (loose (m % 2 ^ 31) k 0)) exact
     ∙ closed_stored s (loose (m % 2 ^ 31) (416 - z) 0) (omega arith) (omega arith)
-    ∙ ap₂ (λ (n r : ℕ). Done (number n (r + 2 ^ 31 * (s % 2)))) stored kept
+    ∙ ap₂ (λ (n r : ℕ). Some (number n (r + 2 ^ 31 * (s % 2)))) stored kept
 
 -- the full numbers that stand for u and v multiply to the one that stands for their product
 pub short_exact : (s t u v : ℕ) → s < 2 → t < 2 → 0 < u → u < 2 ^ 16 → 0 < v → v < 2 ^ 16
-    → restacked_product (full_of_short s u) (full_of_short t v) ≡ Done (full_of_short ((s + t) % 2) (u * v))
+    → restacked_product (full_of_short s u) (full_of_short t v) ≡ Some (full_of_short ((s + t) % 2) (u * v))
 unfolding full_of_short
 short_exact s t u v hs ht pu lu pv lv =
     let x = full_of_short s u in
@@ -70,10 +69,10 @@ short_exact s t u v hs ht pu lu pv lv =
 
 -- of two numbers whose b1 is 0, by their product
 module _ (x y : Number) (f : x.b1 ≡ 0) (g : y.b1 ≡ 0) where
-  pub product_none : short_product x y ≡ 0 → product_of x y ≡ Done zeros
+  pub product_none : short_product x y ≡ 0 → product_of x y ≡ Some zeros
   product_none h = product_short x y f g (omega arith) ∙ simp (eq-eqb (short_product x y) 0 h)
 
-  pub product_some : (short_product x y ≡ 0 → ⊥) → short_product x y ≤ 65535 → product_of x y ≡ Done (short_of (sign_of_two x y) (short_product x y))
+  pub product_some : (short_product x y ≡ 0 → ⊥) → short_product x y ≤ 65535 → product_of x y ≡ Some (short_of (sign_of_two x y) (short_product x y))
   product_some h l = product_short x y f g l ∙ simp (ne_eqb (short_product x y) 0 h)
 
   -- neither is zero where the product is not
@@ -85,11 +84,11 @@ module _ (x y : Number) (f : x.b1 ≡ 0) (g : y.b1 ≡ 0) where
 
   -- The full route makes of them the full number that stands for their product, whether or not it is taken.
   pub full_route_exact : sign x < 2 → sign y < 2 → (short_product x y ≡ 0 → ⊥)
-      → restacked_product (restacked x) (restacked y) ≡ Done (full_of_short (sign_of_two x y) (short_product x y))
+      → restacked_product (restacked x) (restacked y) ≡ Some (full_of_short (sign_of_two x y) (short_product x y))
   full_route_exact hs ht h =
       let p = factors h in
       ap₂ restacked_product (restack_some x f (omega arith)) (restack_some y g (omega arith))
       ∙ short_exact (sign x) (sign y) (short_magnitude x) (short_magnitude y) hs ht p.0 (magnitude_lt x) p.1 (magnitude_lt y)
 
-  pub product_exact : sign x < 2 → sign y < 2 → 65535 < short_product x y → product_of x y ≡ Done (full_of_short (sign_of_two x y) (short_product x y))
+  pub product_exact : sign x < 2 → sign y < 2 → 65535 < short_product x y → product_of x y ≡ Some (full_of_short (sign_of_two x y) (short_product x y))
   product_exact hs ht l = product_beyond x y f g l ∙ full_route_exact hs ht (omega arith)

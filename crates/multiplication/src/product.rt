@@ -1,11 +1,9 @@
 // Multiplication: one machine product, where the ROM adds and shifts.
 ghost use Rattle.std.specs.Prelude.{◌≡◌, ℕ, ◌+◌, ◌*◌, ◌^◌, ◌/◌, ◌%◌};
 ghost use Rattle.number.specs.Number.{number, zeros, low};
-ghost use Rattle.ending.specs.declared.answer.Answer.TheVariants.{Done};
 ghost use Rattle.multiplication.specs.Places.{product_at};
 ghost use Rattle.multiplication.specs.ShortProduct.{Multiplied};
 
-use ending::Answer;
 use number::Number;
 
 // What two numbers whose b1 is 0 come to, unless one is malformed.
@@ -61,15 +59,15 @@ pub fn short_product(b: u32, h: u16, c: u32, k: u16) -> Product
     }
 }
 
-fn zero() -> Answer
-    ensures { result ≡ Done zeros }
+fn zero() -> Option<Number>
+    ensures { result ≡ Some zeros }
 {
-    Answer::Done(Number { b1: 0, word: 0 })
+    Some(Number { b1: 0, word: 0 })
 }
 
 // Of a mantissa, whose top bit goes without saying, and what it is multiplied by: another mantissa, or a short number's magnitude, which need not be made normal
 // first. The sign is the top bit of a word, and e is the sum of the exponent bytes, a magnitude's being 160.
-pub fn multiplication(sign: u32, m: u32, n: u32, e: u32) -> Answer
+pub fn multiplication(sign: u32, m: u32, n: u32, e: u32) -> Option<Number>
     ensures { result ≡ product_at (sign / 2 ^ 31) ((m % 2 ^ 31 + 2 ^ 31) * n) e }
 {
     let p = ((m % 2147483648) as u64 + 2147483648) * n as u64;

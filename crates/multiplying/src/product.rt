@@ -7,7 +7,6 @@ ghost use Rattle.literals.specs.Operate.{outcome, operate_of};
 ghost use Rattle.multiplication.specs.Multiplication.{both_short};
 ghost use Rattle.multiplying.specs.Product.{Pair, Factored};
 
-use ending::Answer;
 use literals::table;
 use number::Number;
 use operands::store;
@@ -51,7 +50,7 @@ fn short_route(stack: &mut [u8], depth: &mut usize, old: usize) -> u8
     if product.malformed {
         return 3;
     }
-    let answer = Answer::Done(Number {
+    let answer = Some(Number {
         b1: product.b1,
         word: product.word,
     });

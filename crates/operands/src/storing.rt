@@ -2,21 +2,21 @@
 ghost use Rattle.std.specs.Prelude.{◌≡◌};
 ghost use Rattle.operands.specs.Stored.{stored_at};
 
-use ending::Answer;
+use number::Number;
 
 // The depth is read again where it is written: one that is kept costs a register for the whole operation.
 pub fn store(
     stack: &mut [u8],
     depth: &mut usize,
     old: usize,
-    answer: Answer,
+    answer: Option<Number>,
     taken: usize,
     left: usize,
 ) -> u8
     ensures { stored_at stack.old depth.old old answer taken left ≡ (result, depth.new, stack.new) }
 {
     match answer {
-        Answer::Done(n) => {
+        Some(n) => {
             places::put_at(stack, old, 1, n.b1, n.word);
             *depth = std::num::wrapping_add_usize(
                 std::num::wrapping_sub_usize(*depth, taken),
@@ -24,6 +24,6 @@ pub fn store(
             );
             0
         }
-        Answer::TooBig => 6,
+        None => 6,
     }
 }

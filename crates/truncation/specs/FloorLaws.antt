@@ -1,5 +1,5 @@
 -- Int of a negative full number: what is left when the whole part is taken away is the difference of the mantissas.
-use Rattle.std.specs.Prelude.{ℕ, ◌+◌, ◌*◌, ◌-◌, ◌^◌, ◌/◌, ◌%◌, ◌≤◌, ◌<◌, ◌≡◌, ◌⊎◌, Bool, true, false, ltb, eqb, ℤ, pos, negsuc, neg_ℤ, ◌+ℤ◌}
+use Rattle.std.specs.Prelude.{ℕ, ◌+◌, ◌*◌, ◌-◌, ◌^◌, ◌/◌, ◌%◌, ◌≤◌, ◌<◌, ◌≡◌, ◌⊎◌, Bool, true, false, ltb, eqb, ℤ, pos, negsuc, neg_ℤ, ◌+ℤ◌, Some}
 use Rattle.std.proofs.Math.Path.{refl, ap, ap₂}
 use Rattle.std.proofs.Common.{sym, ◌∙◌, inl, inr, ne_eqb, eq-eqb, eqb-true, ltb-true, ltb-false, pow_pos, le_trans, le_of_eq, add-mul, mod-lt}
 use Rattle.std.proofs.lemmas.Bool.{eqb-false}
@@ -16,7 +16,6 @@ use Rattle.number.specs.Restack.{full_of_short, restacked}
 use Rattle.number.proofs.RestackLaws.{restack_full, restack_some}
 use Rattle.number.specs.Negate.{negated}
 use Rattle.number.proofs.NegateLaws.{negate_full}
-use Rattle.ending.specs.declared.answer.Answer.TheVariants.{Done}
 use Rattle.ending.specs.Ending.{loose, normal, rounded, ended}
 use Rattle.ending.proofs.EndingLaws.{normal_exponent, closed_stored, ended_zero, ended_other, ended_set}
 use Rattle.addition.specs.Addition.{written_short, ended_sum, aligned_sum, full_route, short_route, sum_of, difference_of}
@@ -44,7 +43,7 @@ full_less ed x t z some o h g k =
 negative : (c : ℕ) → c < 2 ^ 16 → (sign (halves 255 c) ≡ 1) × (256 ≤ (halves 255 c).word)
 negative c p = omega arith
 
-zero_less_one : (ed : Edition) → difference_of ed zeros short_one ≡ Done (halves 255 65535)
+zero_less_one : (ed : Edition) → difference_of ed zeros short_one ≡ Some (halves 255 65535)
 unfolding difference_of negated form_of passes_zero_test sum_of short_route short_value
 zero_less_one Shipped = refl
 zero_less_one Mended = refl
@@ -59,7 +58,7 @@ module _ (ed : Edition) (x : Number) (b : Bytes x) (s : sign x ≡ 1) (f : 0 < x
       ∙ sum_ended 1 (mantissa x - c) x.b1 (omega arith) (omega arith)
 
   module _ (t : Number) (d : ℕ) (e : truncated ed x ≡ t) (h : difference_of ed x t ≡ ended 1 d (x.b1 + 256) 0) where
-    left_none : d ≡ 0 → int_of ed x ≡ Done t
+    left_none : d ≡ 0 → int_of ed x ≡ Some t
     left_none z = int_whole ed x t zeros s e (h ∙ ended_zero 1 d (x.b1 + 256) 0 z) (zero_passes zeros refl (omega arith))
 
     -- the top bit is set, or 31 doublings leave such an exponent above 0
@@ -79,11 +78,11 @@ module _ (ed : Edition) (x : Number) (b : Bytes x) (s : sign x ≡ 1) (f : 0 < x
   none_taken t e o =
       left_some t (mantissa x - 0) e (left t zeros 0 o (omega arith) refl (none_shifted (x.b1 - 0)) (omega arith)) (omega arith) (inl (omega arith))
 
-  pub int_small : x.b1 < 129 → int_of ed x ≡ Done (halves 255 65535)
+  pub int_small : x.b1 < 129 → int_of ed x ≡ Some (halves 255 65535)
   unfolding negated restacked form_of passes_zero_test
   int_small h = none_taken zeros (truncate_full ed x f ∙ truncate_below_one ed x h) refl ∙ zero_less_one ed
 
-  pub int_taken : taken65536 ed x ≡ true → int_of ed x ≡ Done minus_one
+  pub int_taken : taken65536 ed x ≡ true → int_of ed x ≡ Some minus_one
   unfolding negated restacked form_of passes_zero_test
   int_taken t =
       let h = taken_145 x ed t in
@@ -97,7 +96,7 @@ module _ (ed : Edition) (x : Number) (b : Bytes x) (s : sign x ≡ 1) (f : 0 < x
       left t z (mantissa z) o (omega arith) g
       (ap (shifted_by 0 (magnitude_of z)) same ∙ unshifted 0 (magnitude_of z) (omega arith) ∙ simp (ne_eqb z.b1 0 (omega arith))) l
 
-  pub int_large : 160 ≤ x.b1 → int_of ed x ≡ Done x
+  pub int_large : 160 ≤ x.b1 → int_of ed x ≡ Some x
   int_large h =
       let z : Number = record { b1 = x.b1; word = (x.word + 2 ^ 31) % 2 ^ 32 } in
       let some : x.b1 ≡ 0 → ⊥ = omega arith in
@@ -111,7 +110,7 @@ module _ (ed : Edition) (x : Number) (b : Bytes x) (s : sign x ≡ 1) (f : 0 < x
   k = 160 - x.b1
 
   pub record Cut (t : Number) : Type 0 where
-    pub whole : cleared k (mantissa x) ≡ mantissa x → int_of ed x ≡ Done t
+    pub whole : cleared k (mantissa x) ≡ mantissa x → int_of ed x ≡ Some t
     pub part : (cleared k (mantissa x) ≡ mantissa x → ⊥) → int_of ed x ≡ difference_of ed t short_one
 
   cut : (t z : Number) → truncated ed x ≡ t → opposite t ≡ z → z.b1 ≡ x.b1 → sign z ≡ 0 → mantissa z ≡ cleared k (mantissa x) → 31 < x.b1 → Cut t
@@ -147,21 +146,21 @@ module _ (ed : Edition) (x : Number) (b : Bytes x) (s : sign x ≡ 1) (f : 0 < x
           ∙ ap₂ full_of_short (positive v q) near
 
   -- one more where a part was cut off
-  pub short_up : 129 ≤ x.b1 → x.b1 < 145 → (cleared k (mantissa x) ≡ mantissa x → ⊥) → mantissa x / 2 ^ k < 65535 → int_of ed x ≡ Done (halves 255 (65535 - mantissa x / 2 ^ k))
+  pub short_up : 129 ≤ x.b1 → x.b1 < 145 → (cleared k (mantissa x) ≡ mantissa x → ⊥) → mantissa x / 2 ^ k < 65535 → int_of ed x ≡ Some (halves 255 (65535 - mantissa x / 2 ^ k))
   short_up h g p q =
       let v = mantissa x / 2 ^ k in
       (cut_short h g).part p ∙ lower v (dropped (mantissa x) k (omega arith) (omega arith) (omega arith)).some q
     where
-      lower : (v : ℕ) → 0 < v → v < 65535 → difference_of ed (halves 255 (complement_of v)) short_one ≡ Done (halves 255 (65535 - v))
+      lower : (v : ℕ) → 0 < v → v < 65535 → difference_of ed (halves 255 (complement_of v)) short_one ≡ Some (halves 255 (65535 - v))
       lower v p q =
           let c = complement_of v in
           let less : c - 1 ≡ 65535 - v = omega arith in
           (rw (low_halves 255 c (omega arith)) at (less_one ed (halves 255 c) refl (negative c (omega arith)).0)) (omega arith)
-          ∙ ap Done (over_same (halves 255 c) (halves 255 (c - 1)) refl (omega arith) ∙ ap (halves 255) less)
+          ∙ ap Some (over_same (halves 255 c) (halves 255 (c - 1)) refl (omega arith) ∙ ap (halves 255) less)
 
   -- below -65,535 it is -65,536, in the edition's way
   pub short_least : 129 ≤ x.b1 → x.b1 < 145 → (cleared k (mantissa x) ≡ mantissa x → ⊥) → mantissa x / 2 ^ k ≡ 65535
-      → int_of ed x ≡ Done (written_short ed (halves 255 1) (negsuc 65535))
+      → int_of ed x ≡ Some (written_short ed (halves 255 1) (negsuc 65535))
   short_least h g p q =
       (cut_short h g).part p
       ∙ ap (λ (v : ℕ). difference_of ed (halves 255 (complement_of v)) short_one) q
@@ -180,18 +179,18 @@ module _ (ed : Edition) (x : Number) (b : Bytes x) (s : sign x ≡ 1) (f : 0 < x
 
 -- in the shipped edition -65,536 is short too, and one law does for both
 pub short_down : (x : Number) (b : Bytes x) (s : sign x ≡ 1) (f : 0 < x.b1) → 129 ≤ x.b1 → x.b1 < 145
-    → (cleared (160 - x.b1) (mantissa x) ≡ mantissa x → ⊥) → int_of Shipped x ≡ Done (halves 255 (65535 - mantissa x / 2 ^ (160 - x.b1)))
+    → (cleared (160 - x.b1) (mantissa x) ≡ mantissa x → ⊥) → int_of Shipped x ≡ Some (halves 255 (65535 - mantissa x / 2 ^ (160 - x.b1)))
 short_down x b s f h g p = go (ltb v 65535) refl
   where
     v : ℕ
     v = mantissa x / 2 ^ (160 - x.b1)
 
-    go : (c : Bool) → ltb v 65535 ≡ c → int_of Shipped x ≡ Done (halves 255 (65535 - v))
+    go : (c : Bool) → ltb v 65535 ≡ c → int_of Shipped x ≡ Some (halves 255 (65535 - v))
     go true c = short_up Shipped x b s f h g p (ltb-true _ _ c)
     go false c =
         let most = dropped_lt (mantissa x) (160 - x.b1) (omega arith) (omega arith) in
         let is : v ≡ 65535 = omega (arith, ltb-false v 65535 c) in
-        short_least Shipped x b s f h g p is ∙ ap (λ (w : ℕ). Done (halves 255 (65535 - w))) (sym is)
+        short_least Shipped x b s f h g p is ∙ ap (λ (w : ℕ). Some (halves 255 (65535 - w))) (sym is)
 
 -- One less than the mantissa, with the places dropped: one less where nothing is cut off, and else the same.
 less_whole : (v n : ℕ) → 0 < v → (v * 2 ^ n - 1) / 2 ^ n ≡ v - 1
@@ -210,7 +209,7 @@ less_part m n h =
 
 -- so int of a negative number whose whole part is short, without a case
 pub short_below : (x : Number) (b : Bytes x) (s : sign x ≡ 1) (f : 0 < x.b1) → 129 ≤ x.b1 → x.b1 < 145
-    → int_of Shipped x ≡ Done (halves 255 (65535 - (mantissa x - 1) / 2 ^ (160 - x.b1)))
+    → int_of Shipped x ≡ Some (halves 255 (65535 - (mantissa x - 1) / 2 ^ (160 - x.b1)))
 short_below x b s f h g = go (eqb (cleared k m) m) refl
   where
     k : ℕ
@@ -219,15 +218,15 @@ short_below x b s f h g = go (eqb (cleared k m) m) refl
     m : ℕ
     m = mantissa x
 
-    go : (c : Bool) → eqb (cleared k m) m ≡ c → int_of Shipped x ≡ Done (halves 255 (65535 - (m - 1) / 2 ^ k))
+    go : (c : Bool) → eqb (cleared k m) m ≡ c → int_of Shipped x ≡ Some (halves 255 (65535 - (m - 1) / 2 ^ k))
     go true c =
         let same = eqb-true (cleared k m) m c in
         let v = m / 2 ^ k in
         let some = (dropped m k (omega arith) (omega arith) (omega arith)).some in
         let most = dropped_lt m k (omega arith) (omega arith) in
         let one : (m - 1) / 2 ^ k ≡ v - 1 = ap (λ (n : ℕ). (n - 1) / 2 ^ k) (sym same) ∙ less_whole v k some in
-        (cut_short Shipped x b s f h g).whole same ∙ ap (λ (n : ℕ). Done (halves 255 n)) (flip v (65535 - (m - 1) / 2 ^ k) some most (ap (λ (n : ℕ). 65535 - n) one))
+        (cut_short Shipped x b s f h g).whole same ∙ ap (λ (n : ℕ). Some (halves 255 n)) (flip v (65535 - (m - 1) / 2 ^ k) some most (ap (λ (n : ℕ). 65535 - n) one))
       where
         flip : (v n : ℕ) → 0 < v → v < 2 ^ 16 → n ≡ 65535 - (v - 1) → complement_of v ≡ n
         flip v n p q e = omega arith
-    go false c = short_down x b s f h g (eqb-false (cleared k m) m c) ∙ ap (λ (n : ℕ). Done (halves 255 (65535 - n))) (sym (less_part m k (eqb-false (cleared k m) m c)))
+    go false c = short_down x b s f h g (eqb-false (cleared k m) m c) ∙ ap (λ (n : ℕ). Some (halves 255 (65535 - n))) (sym (less_part m k (eqb-false (cleared k m) m c)))

@@ -1,5 +1,5 @@
 -- Int by what is left when the whole part is taken away; and of short numbers and odd, by the short route.
-use Rattle.std.specs.Prelude.{ℕ, ◌*◌, ◌/◌, ◌+◌, ◌-◌, ◌^◌, ◌%◌, ◌≤◌, ◌<◌, ◌≡◌, true, negsuc}
+use Rattle.std.specs.Prelude.{ℕ, ◌*◌, ◌/◌, ◌+◌, ◌-◌, ◌^◌, ◌%◌, ◌≤◌, ◌<◌, ◌≡◌, true, negsuc, Some}
 use Rattle.std.proofs.Math.Path.{refl, sym, ap, ap₂}
 use Rattle.std.proofs.Common.{◌∙◌, inl, inr, eq-eqb, ne_eqb}
 use Rattle.std.proofs.Math.Bool.{false}
@@ -17,7 +17,6 @@ use Rattle.number.proofs.RestackLaws.{restack_zero}
 use Rattle.number.specs.Negate.{negated}
 use Rattle.number.proofs.NegateLaws.{negate_short}
 use Rattle.ending.specs.Ending.{normal, closed, ended}
-use Rattle.ending.specs.declared.answer.Answer.TheVariants.{Done}
 use Rattle.addition.specs.Addition.{minus65536, written_short, aligned, ended_sum, aligned_sum, full_route, sum_of, difference_of}
 use Rattle.addition.specs.ShortRouteLaws.{carry_of, negatives, wrapped}
 use Rattle.addition.proofs.ShortRouteLaws.{carries, sum_positive, sum_negative, sum_least, sum_beyond}
@@ -25,7 +24,7 @@ use Rattle.truncation.specs.Truncate.{truncated}
 use Rattle.truncation.specs.TruncateLaws.{truncate_not_full}
 use Rattle.truncation.specs.Int.{short_one, step_down, int_of}
 
-pub int_positive : (ed : Edition) (x : Number) → sign x ≡ 0 → int_of ed x ≡ Done (truncated ed x)
+pub int_positive : (ed : Edition) (x : Number) → sign x ≡ 0 → int_of ed x ≡ Some (truncated ed x)
 unfolding int_of
 int_positive ed x h = simp (eq-eqb (sign x) 0 h)
 
@@ -33,11 +32,11 @@ pub int_steps : (ed : Edition) (x : Number) → (sign x ≡ 0 → ⊥) → int_o
 unfolding int_of
 int_steps ed x h = simp (ne_eqb (sign x) 0 h)
 
-module _ (ed : Edition) (x t d : Number) (h : sign x ≡ 1) (e : truncated ed x ≡ t) (f : difference_of ed x t ≡ Done d) where
-  down : int_of ed x ≡ step_down ed t (Done d)
+module _ (ed : Edition) (x t d : Number) (h : sign x ≡ 1) (e : truncated ed x ≡ t) (f : difference_of ed x t ≡ Some d) where
+  down : int_of ed x ≡ step_down ed t (Some d)
   down = int_steps ed x (omega arith) ∙ ap (λ (n : Number). step_down ed n (difference_of ed x n)) e ∙ ap (step_down ed t) f
 
-  pub int_whole : passes_zero_test d ≡ true → int_of ed x ≡ Done t
+  pub int_whole : passes_zero_test d ≡ true → int_of ed x ≡ Some t
   int_whole z = down ∙ simp z
 
   pub int_part : passes_zero_test d ≡ false → int_of ed x ≡ difference_of ed t short_one
@@ -68,21 +67,21 @@ module _ (ed : Edition) (t : Number) (h : t.b1 ≡ 0) (s : sign t ≡ 1) where
       let carry : carry_of (wrapped t other) (low t) ≡ 1 = carries (low t) 65535 (omega arith) (omega arith) (omega arith) in
       ap (λ (n : ℕ). n + 1) carry ∙ sym two_negative
 
-  pub less_one : 1 < low t → difference_of ed t short_one ≡ Done (stored_over t (halves 255 (low t - 1)))
+  pub less_one : 1 < low t → difference_of ed t short_one ≡ Some (stored_over t (halves 255 (low t - 1)))
   unfolding difference_of
   less_one p =
       let one = one_lower (low t) (omega arith) (omega arith) in
       ap (sum_of ed t) one_negated
       ∙ sum_negative ed t other h refl (omega arith) (carried (omega arith))
-      ∙ ap (λ (n : ℕ). Done (stored_over t (halves 255 n))) one
+      ∙ ap (λ (n : ℕ). Some (stored_over t (halves 255 n))) one
 
   -- -65,535 less 1 is written in the edition's way
-  pub least_less_one : low t ≡ 1 → difference_of ed t short_one ≡ Done (written_short ed t (negsuc 65535))
+  pub least_less_one : low t ≡ 1 → difference_of ed t short_one ≡ Some (written_short ed t (negsuc 65535))
   unfolding difference_of
   least_less_one e = ap (sum_of ed t) one_negated ∙ sum_least ed t other h refl (omega arith) (carried (omega arith))
 
   -- the sum would be -65,537, and on the full route odd counts as zero
-  pub odd_less_one : low t ≡ 0 → difference_of ed t short_one ≡ Done minus_one
+  pub odd_less_one : low t ≡ 0 → difference_of ed t short_one ≡ Some minus_one
   unfolding difference_of full_route aligned_sum ended_sum aligned ended closed normal restacked full_of_short form_of count_leading_zeros
   odd_less_one z =
       let none : short_magnitude t ≡ 0 = simp (ne_eqb (sign t) 0 (omega arith)) (ap complement_of z) in
@@ -121,7 +120,7 @@ module _ (ed : Edition) (x : Number) (b : Bytes x) (h : x.b1 ≡ 0) (s : sign x 
   y = opposite x b h s
 
   -- x less x is zero
-  pub int_short : 0 < low x → int_of ed x ≡ Done x
+  pub int_short : 0 < low x → int_of ed x ≡ Some x
   unfolding difference_of
   int_short p =
       let carry : carry_of (wrapped x y) (low x) ≡ 1 =
@@ -130,14 +129,14 @@ module _ (ed : Edition) (x : Number) (b : Bytes x) (h : x.b1 ≡ 0) (s : sign x 
       int_whole ed x x (stored_over x zeros) s (truncate_not_full ed x h)
       (ap (sum_of ed x) (minus x b h s)
       ∙ sum_positive ed x y h refl (carry ∙ sym (one_negative x b h s))
-      ∙ ap (λ (n : ℕ). Done (stored_over x (halves 0 n))) none)
+      ∙ ap (λ (n : ℕ). Some (stored_over x (halves 0 n))) none)
       (zero_passes (stored_over x zeros) h (omega arith))
     where
       past : (l : ℕ) → 0 < l → 2 ^ 16 ≤ l + complement_of l
       past l g = omega arith
 
   -- negation takes odd for zero, addition takes it for -65,536
-  pub int_odd : low x ≡ 0 → int_of ed x ≡ Done minus_one
+  pub int_odd : low x ≡ 0 → int_of ed x ≡ Some minus_one
   unfolding difference_of
   int_odd z =
       let o : low y ≡ 0 = low_opposite x b h s ∙ ap complement_of z in
@@ -153,15 +152,15 @@ module _ (ed : Edition) (x : Number) (b : Bytes x) (h : x.b1 ≡ 0) (s : sign x 
       least_fails Mended = full_fails minus65536 (omega arith)
 
 -- a short number is whole
-pub int_kept : (ed : Edition) (x : Number) → Bytes x → form_of x ≡ Short → int_of ed x ≡ Done x
+pub int_kept : (ed : Edition) (x : Number) → Bytes x → form_of x ≡ Short → int_of ed x ≡ Some x
 int_kept ed x b f = go (form_bytes x Short f)
   where
-    go : FormBytes x Short → int_of ed x ≡ Done x
-    go (h, inl z) = int_positive ed x (omega (arith, z)) ∙ ap Done (truncate_not_full ed x h)
+    go : FormBytes x Short → int_of ed x ≡ Some x
+    go (h, inl z) = int_positive ed x (omega (arith, z)) ∙ ap Some (truncate_not_full ed x h)
     go (h, inr (n, l)) = int_short ed x b h (omega (arith, n, b.word_below)) l
 
 -- and odd becomes -1
-pub int_of_odd : (ed : Edition) (x : Number) → Bytes x → x.b1 ≡ 0 → x.word / 2 ^ 8 ≡ 255 * 2 ^ 16 → int_of ed x ≡ Done minus_one
+pub int_of_odd : (ed : Edition) (x : Number) → Bytes x → x.b1 ≡ 0 → x.word / 2 ^ 8 ≡ 255 * 2 ^ 16 → int_of ed x ≡ Some minus_one
 int_of_odd ed x b h e =
     let two : x.word / 2 ^ 16 ≡ 255 * 2 ^ 8 = (places x.word).0 ∙ ap (λ (k : ℕ). k / 2 ^ 8) e in
     int_odd ed x b h (omega (arith, e, b.word_below)) (ap₂ (λ (i j : ℕ). 256 * (i % 256) + j % 256) e two)

@@ -1,6 +1,7 @@
 -- The two editions' truncation and int beside each other. Of a number that is not odd, the mended edition truncates as the shipped one does, with -65,536 as a
 -- full number where that leaves odd; and so does int, away from what the shipped one takes for -65,536.
-use Rattle.std.specs.Prelude.{ℕ, ◌+◌, ◌*◌, ◌-◌, ◌^◌, ◌/◌, ◌<◌, ◌≡◌, refl, ◌⊎◌, Bool, true, false, cond, ltb, eqb}
+use Rattle.std.specs.Prelude.{ℕ, ◌+◌, ◌*◌, ◌-◌, ◌^◌, ◌/◌, ◌<◌, ◌≡◌, refl, ◌⊎◌, Bool, true, false, cond, ltb, eqb, Some, None}
+use Rattle.ending.specs.Ending.{Answer}
 use Rattle.std.proofs.Common.{sym, ◌∙◌, ap, ap₂, inl, inr, eq-zero-or-pos, arith, eqb-true, ltb-true, ltb-false}
 use Rattle.std.proofs.lemmas.Bool.{eqb-false}
 use Rattle.edition.specs.declared.Edition.TheVariants.{Shipped, Mended}
@@ -9,8 +10,6 @@ use Rattle.number.specs.Number.{odd, number, zeros, bytes, sign, mantissa, full_
 use Rattle.number.specs.NumberLaws.{Bytes, full_fails, some_fails}
 use Rattle.number.proofs.NotOdd.{short_not_odd}
 use Rattle.number.specs.OddLaws.{odd_full, odd_word, odd_ended, odd_bytes}
-use Rattle.ending.specs.declared.answer.Answer.{Answer}
-use Rattle.ending.specs.declared.answer.Answer.TheVariants.{Done, TooBig}
 use Rattle.addition.specs.Addition.{minus65536, difference_of}
 use Rattle.addition.specs.MendedLaws.{mended, mended_answer}
 use Rattle.addition.proofs.MendedLaws.{mended_same, mended_odd_lem, difference_mended}
@@ -71,11 +70,11 @@ module _ (x : Number) (b : Bytes x) where
         go false e = refl
 
     stepped : (n : Number) → odd n ≡ false → (a : Answer) → step_down Mended n (mended_answer a) ≡ mended_answer (step_down Shipped n a)
-    stepped n h TooBig = refl
-    stepped n h (Done d) = ap (λ (p : Bool). cond p (Done n) (difference_of Mended n short_one)) (passes_mended d) ∙ go (passes_zero_test d)
+    stepped n h None = refl
+    stepped n h (Some d) = ap (λ (p : Bool). cond p (Some n) (difference_of Mended n short_one)) (passes_mended d) ∙ go (passes_zero_test d)
       where
-        go : (p : Bool) → cond p (Done n) (difference_of Mended n short_one) ≡ mended_answer (cond p (Done n) (difference_of Shipped n short_one))
-        go true = ap Done (sym (mended_same n h))
+        go : (p : Bool) → cond p (Some n) (difference_of Mended n short_one) ≡ mended_answer (cond p (Some n) (difference_of Shipped n short_one))
+        go true = ap Some (sym (mended_same n h))
         go false = difference_mended n short_one
 
     pub int_mended : int_of Mended x ≡ mended_answer (int_of Shipped x)
@@ -86,7 +85,7 @@ module _ (x : Number) (b : Bytes x) where
 
         go : (sign x ≡ 0) ⊎ (0 < sign x) → int_of Mended x ≡ mended_answer (int_of Shipped x)
         go (inl z) =
-            int_positive Mended x z ∙ ap Done (alike.same ∙ sym (mended_same n alike.never)) ∙ ap mended_answer (sym (int_positive Shipped x z))
+            int_positive Mended x z ∙ ap Some (alike.same ∙ sym (mended_same n alike.never)) ∙ ap mended_answer (sym (int_positive Shipped x z))
         go (inr p) =
             int_steps Mended x (omega arith)
             ∙ ap (λ (k : Number). step_down Mended k (difference_of Mended x k)) alike.same
@@ -121,16 +120,16 @@ module _ (x : Number) (b : Bytes x) where
     cut : cleared (160 - x.b1) (mantissa x) ≡ 2 ^ 31
     cut = ap (λ (i : ℕ). cleared i (mantissa x)) k15 ∙ omega (arith, taken_word t)
 
-    pub int_exact : x.word ≡ 2 ^ 31 → int_of Mended x ≡ Done x
+    pub int_exact : x.word ≡ 2 ^ 31 → int_of Mended x ≡ Some x
     int_exact e =
         let h = taken_145 x Shipped t in
         int_same Mended x b (omega arith) (omega arith) (omega arith) (taken_never x) (omega (arith, cut))
 
-    pub int_below : (x.word ≡ 2 ^ 31 → ⊥) → int_of Mended x ≡ Done (number 145 (2 ^ 31 + 2 ^ 15))
+    pub int_below : (x.word ≡ 2 ^ 31 → ⊥) → int_of Mended x ≡ Some (number 145 (2 ^ 31 + 2 ^ 15))
     int_below n =
         let h = taken_145 x Shipped t in
         let w = taken_word t in
         let one : 2 ^ (160 - x.b1) ≡ 2 ^ 15 = ap (λ (i : ℕ). 2 ^ i) k15 in
         let up : cleared (160 - x.b1) (mantissa x) + 2 ^ (160 - x.b1) ≡ 2 ^ 31 + 2 ^ 15 = omega (arith, cut, one) in
         int_up Mended x b (omega arith) (omega arith) (omega arith) (taken_never x) (λ e. n (omega (arith, cut, e))) (omega (arith, up))
-        ∙ ap₂ (λ (i m : ℕ). Done (full_of 1 i m)) h up
+        ∙ ap₂ (λ (i m : ℕ). Some (full_of 1 i m)) h up

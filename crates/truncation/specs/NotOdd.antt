@@ -1,13 +1,12 @@
 -- Truncation and int of the mended edition, of a number that is not odd, give none that is.
-use Rattle.std.specs.Prelude.{◌-◌, ◌^◌, ◌/◌, ◌<◌, ◌≡◌, refl, ◌⊎◌, Bool, true, false, cond, ltb, eqb}
+use Rattle.std.specs.Prelude.{◌-◌, ◌^◌, ◌/◌, ◌<◌, ◌≡◌, refl, ◌⊎◌, Bool, true, false, cond, ltb, eqb, Some, None}
+use Rattle.ending.specs.Ending.{Answer}
 use Rattle.std.proofs.Common.{◌∙◌, ap, inl, inr, eq-zero-or-pos, arith, ltb-true, ltb-false}
 use Rattle.edition.specs.declared.Edition.TheVariants.{Mended}
 use Rattle.number.specs.declared.Number.{Number}
 use Rattle.number.specs.Number.{zeros, sign, mantissa, short_of, odd, passes_zero_test}
 use Rattle.number.specs.OddLaws.{odd_full, odd_ended}
 use Rattle.number.proofs.NotOdd.{short_not_odd}
-use Rattle.ending.specs.declared.answer.Answer.{Answer}
-use Rattle.ending.specs.declared.answer.Answer.TheVariants.{Done, TooBig}
 use Rattle.ending.specs.NotOdd.{NotOdd}
 use Rattle.addition.specs.Addition.{difference_of}
 use Rattle.addition.proofs.NotOdd.{difference_not_odd}
@@ -42,11 +41,11 @@ int_not_odd x o = go (eqb (sign x) 0) (difference_of Mended x t)
     t : Number
     t = truncated Mended x
 
-    down : (z : Bool) → NotOdd (cond z (Done t) (difference_of Mended t short_one))
+    down : (z : Bool) → NotOdd (cond z (Some t) (difference_of Mended t short_one))
     down true = truncated_not_odd x o
     down false = difference_not_odd t short_one
 
-    go : (a : Bool) (d : Answer) → NotOdd (cond a (Done t) (step_down Mended t d))
+    go : (a : Bool) (d : Answer) → NotOdd (cond a (Some t) (step_down Mended t d))
     go true d = truncated_not_odd x o
-    go false (Done d) = down (passes_zero_test d)
-    go false TooBig = tt
+    go false (Some d) = down (passes_zero_test d)
+    go false None = tt

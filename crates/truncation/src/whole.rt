@@ -3,14 +3,13 @@
 ghost use Rattle.std.specs.Prelude.{◌≡◌, cond, ℕ, ◌-◌, ◌≤◌, ◌<◌, eqb};
 ghost use Rattle.edition.specs.declared.Edition.TheVariants.{Shipped};
 ghost use Rattle.number.specs.Number.{number, sign};
-ghost use Rattle.ending.specs.declared.answer.Answer.TheVariants.{Done};
 ghost use Rattle.truncation.specs.Int.{int_of};
 
 use crate::cutting::{is_taken_65536, truncate};
 use number::Number;
 
 fn below_one(word: u32) -> u32
-    ensures { (e : ℕ) → 0 < e → e < 129 → int_of Shipped (number e word) ≡ Done (number 0 result) }
+    ensures { (e : ℕ) → 0 < e → e < 129 → int_of Shipped (number e word) ≡ Some (number 0 result) }
 {
     if word < 2147483648 {
         return 0;
@@ -32,7 +31,7 @@ fn flipped(sign: u32, q: u16) -> u16
 // zero, and that, flipped, is its low half. So the sign is no branch, since it goes by the data.
 fn short_floor(e: u8, word: u32) -> u32
     requires { (129 ≤ e) × (e < 145) }
-    ensures { int_of Shipped (number e word) ≡ Done (number 0 result) }
+    ensures { int_of Shipped (number e word) ≡ Some (number 0 result) }
 {
     let sign = word / 2147483648;
     let m = word % 2147483648 + 2147483648;
@@ -43,7 +42,7 @@ fn short_floor(e: u8, word: u32) -> u32
 // Of a negative number whose whole part is not short, and whose last bit is worth less than 2.
 fn floor_of(x: Number) -> Number
     requires { (sign x ≡ 1) × (145 ≤ x.b1) × (x.b1 < 160) }
-    ensures { int_of Shipped x ≡ Done result }
+    ensures { int_of Shipped x ≡ Some result }
 {
     let e = x.b1;
     let word = x.word;
@@ -74,7 +73,7 @@ fn floor_of(x: Number) -> Number
 }
 
 pub fn int(x: Number) -> Number
-    ensures { int_of Shipped x ≡ Done result }
+    ensures { int_of Shipped x ≡ Some result }
 {
     let e = x.b1;
     let word = x.word;

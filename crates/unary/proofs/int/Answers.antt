@@ -1,5 +1,7 @@
 -- `int` meets its contract: each way out is a case of the operation; of what is not full, odd alone does not stay.
 use Rattle.std.proofs.Common.{ap, ap₂, arith, false, refl, subst, sym, ◌∙◌, ◌≡◌}
+use Rattle.std.specs.Prelude.{Some}
+use Rattle.ending.specs.Ending.{Answer}
 use Rattle.edition.specs.declared.Edition.{Edition}
 use Rattle.edition.specs.declared.Edition.TheVariants.{Shipped}
 use Rattle.number.specs.declared.Number.{Number}
@@ -7,8 +9,6 @@ use Rattle.number.specs.Number.{malformed, number}
 use Rattle.number.specs.FormLaws.{form_stays}
 use Rattle.truncation.specs.Int.{int_of}
 use Rattle.truncation.specs.IntLaws.{int_kept, int_of_odd}
-use Rattle.ending.specs.declared.answer.Answer.{Answer}
-use Rattle.ending.specs.declared.answer.Answer.TheVariants.{Done}
 use Rattle.slots.specs.Reach.{lacking, number_at}
 use Rattle.literals.specs.Literals.{row_of}
 use Rattle.literals.proofs.WayLaws.{one_lacking, one_malformed, one_put, one_kept}
@@ -45,7 +45,7 @@ returns-then-word-ne16711680 c =
     let is = ap₂ number w.b1_at-b1.ensures w.word_at-word.ensures in
     let m = formed (goal.at.returns-then-word-ne16711680 c).Else-malformed_at in
     one_kept Shipped _ _ 39 f refl (there (goal.at.returns-then-word-ne16711680 c).Else-lacks_at) (λ k. omega (arith, c.slice_known-1.given k)) m
-    (subst (λ (x : Number). int_of Shipped x ≡ Done x) is
+    (subst (λ (x : Number). int_of Shipped x ≡ Some x) is
     (int_kept Shipped _ (record { b1_below = omega arith; word_below = omega arith }) (form_stays _ (omega arith) (omega arith) (ap malformed is ∙ m) (omega arith))))
 
 pub returns : goal.returns

@@ -1,13 +1,13 @@
 -- `negate` meets its contract: each way out is a case of the operation; of a full number the sign bit alone is written anew.
 use Rattle.std.proofs.Common.{ap, ap₂, arith, false, refl, subst, sym, ◌∙◌, ◌≡◌}
+use Rattle.std.specs.Prelude.{Some}
+use Rattle.ending.specs.Ending.{Answer}
 use Rattle.edition.specs.declared.Edition.{Edition}
 use Rattle.edition.specs.declared.Edition.TheVariants.{Shipped}
 use Rattle.number.specs.declared.Number.{Number}
 use Rattle.number.specs.Number.{malformed, number}
 use Rattle.number.specs.Negate.{negated}
 use Rattle.number.proofs.NegateLaws.{negate_full, negate_none, negate_formed}
-use Rattle.ending.specs.declared.answer.Answer.{Answer}
-use Rattle.ending.specs.declared.answer.Answer.TheVariants.{Done}
 use Rattle.slots.specs.Reach.{lacking, number_at}
 use Rattle.literals.specs.Literals.{row_of}
 use Rattle.literals.proofs.WayLaws.{one_lacking, one_malformed, one_put, one_kept}
@@ -15,7 +15,7 @@ use Rattle.unary.proofs.negate.Goals as goal
 use Rattle.unary.proofs.negate.Goals.{Else-b1-ne0, Else-lacks_at, Else-malformed_at}
 
 abbrev f : Edition → Number → Answer
-f = λ ed x. Done (negated x)
+f = λ ed x. Some (negated x)
 
 there : (c : Else-lacks_at) → lacking c.args.stack.now c.args.depth.now 1 ≡ false
 there c = sym c.lacks_at.ensures ∙ c.if-lacks_at.false
@@ -39,14 +39,14 @@ pub returns-then-b1-ne0 : goal.returns-then-b1-ne0
 unfolding row_of
 returns-then-b1-ne0 c =
     let p = c in
-    one_put Shipped _ _ 27 f refl (there (goal.at.returns-then-b1-ne0 c).Else-lacks_at) c.b1_at-b1.ensures c.word_at-word.ensures (formed (goal.at.returns-then-b1-ne0 c).Else-malformed_at) (ap Done (negate_full _ c.if-b1-ne0.true ∙ ap (number _) (sym p.wrapping_add_u32-flipped.ensures.value))) p.put_at.ensures
+    one_put Shipped _ _ 27 f refl (there (goal.at.returns-then-b1-ne0 c).Else-lacks_at) c.b1_at-b1.ensures c.word_at-word.ensures (formed (goal.at.returns-then-b1-ne0 c).Else-malformed_at) (ap Some (negate_full _ c.if-b1-ne0.true ∙ ap (number _) (sym p.wrapping_add_u32-flipped.ensures.value))) p.put_at.ensures
 
 pub returns-then-four-eq0 : goal.returns-then-four-eq0
 unfolding row_of
 returns-then-four-eq0 c =
     let w = c in
     one_kept Shipped _ _ 27 f refl (there (goal.at.returns-then-four-eq0 c).Else-lacks_at) (λ k. omega (arith, c.slice_known-1.given k)) (formed (goal.at.returns-then-four-eq0 c).Else-malformed_at)
-    (ap Done (subst (λ (x : Number). negated x ≡ x) (short (goal.at.returns-then-four-eq0 c).Else-b1-ne0) (negate_none _ _ (omega arith) c.swapped-four.ensures c.if-four-eq0.true)))
+    (ap Some (subst (λ (x : Number). negated x ≡ x) (short (goal.at.returns-then-four-eq0 c).Else-b1-ne0) (negate_none _ _ (omega arith) c.swapped-four.ensures c.if-four-eq0.true)))
 
 pub returns : goal.returns
 unfolding row_of
@@ -57,5 +57,5 @@ returns c =
     let s = c in
     let m = formed (goal.at.returns c).Else-malformed_at in
     one_put Shipped _ _ 27 f refl (there (goal.at.returns c).Else-lacks_at) (sym s.if-b1-ne0.false ∙ s.b1_at-b1.ensures) s.word_at-word.ensures m
-    (ap Done (negate_formed _ _ _ _ (omega arith) (ap malformed (short (goal.at.returns c).Else-b1-ne0) ∙ m) e.swapped-four.ensures e.if-four-eq0.false (omega arith) q.wrapping_sub_u32-other.ensures.value p.swapped.ensures))
+    (ap Some (negate_formed _ _ _ _ (omega arith) (ap malformed (short (goal.at.returns c).Else-b1-ne0) ∙ m) e.swapped-four.ensures e.if-four-eq0.false (omega arith) q.wrapping_sub_u32-other.ensures.value p.swapped.ensures))
     p.put_at-2.ensures

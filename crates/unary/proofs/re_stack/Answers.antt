@@ -1,5 +1,7 @@
 -- `re_stack` meets its contract: each way out is a case of the operation; a full number stays.
 use Rattle.std.proofs.Common.{ap, ap₂, arith, false, mod-eq_of_lt, refl, sym, ℕ, ◌∙◌, ◌≡◌}
+use Rattle.std.specs.Prelude.{Some}
+use Rattle.ending.specs.Ending.{Answer}
 use Rattle.edition.specs.declared.Edition.{Edition}
 use Rattle.edition.specs.declared.Edition.TheVariants.{Shipped}
 use Rattle.number.specs.declared.Number.{Number}
@@ -9,8 +11,6 @@ use Rattle.number.specs.Operand.{Unpacks}
 use Rattle.number.proofs.OperandLaws.{unpacks_short}
 use Rattle.number.specs.Restack.{restacked}
 use Rattle.number.proofs.RestackLaws.{restack_full}
-use Rattle.ending.specs.declared.answer.Answer.{Answer}
-use Rattle.ending.specs.declared.answer.Answer.TheVariants.{Done}
 use Rattle.slots.specs.Reach.{lacking, number_at}
 use Rattle.literals.specs.Literals.{row_of}
 use Rattle.literals.proofs.WayLaws.{one_lacking, one_malformed, one_put, one_kept}
@@ -18,7 +18,7 @@ use Rattle.unary.proofs.re_stack.Goals as goal
 use Rattle.unary.proofs.re_stack.Goals.{After-operand_of-n, Else-lacks_at}
 
 abbrev f : Edition → Number → Answer
-f = λ ed x. Done (restacked x)
+f = λ ed x. Some (restacked x)
 
 there : (c : Else-lacks_at) → lacking c.args.stack.now c.args.depth.now 1 ≡ false
 there c = sym c.lacks_at.ensures ∙ c.if-lacks_at.false
@@ -37,7 +37,7 @@ pub returns-then-b1-ne0 : goal.returns-then-b1-ne0
 unfolding row_of
 returns-then-b1-ne0 c =
     let full : ¬ (◌≡◌ {A = ℕ} _ 0) = λ z. c.if-b1-ne0.true (c.b1_at-b1.ensures ∙ z) in
-    one_kept Shipped _ _ 61 f refl (there (goal.at.returns-then-b1-ne0 c).Else-lacks_at) (λ k. omega (arith, c.slice_known-1.given k)) (malformed_full _ full) (ap Done (restack_full _ full))
+    one_kept Shipped _ _ 61 f refl (there (goal.at.returns-then-b1-ne0 c).Else-lacks_at) (λ k. omega (arith, c.slice_known-1.given k)) (malformed_full _ full) (ap Some (restack_full _ full))
 
 pub returns-then-n : goal.returns-then-n
 unfolding row_of
@@ -50,7 +50,7 @@ returns-then-n-eq0 c =
     let o = c in
     let u = unpacked (goal.at.returns-then-n-eq0 c).After-operand_of-n in
     let m = sym u.form ∙ o.if-n.false in
-    one_put Shipped _ _ 61 f refl (there (goal.at.returns-then-n-eq0 c).Else-lacks_at) refl refl m (ap Done (sym (u.stands m) ∙ u.none p.if-n-eq0.true)) p.put_at.ensures
+    one_put Shipped _ _ 61 f refl (there (goal.at.returns-then-n-eq0 c).Else-lacks_at) refl refl m (ap Some (sym (u.stands m) ∙ u.none p.if-n-eq0.true)) p.put_at.ensures
 
 pub returns : goal.returns
 unfolding row_of
@@ -59,4 +59,4 @@ returns c =
     let o = c in
     let u = unpacked (goal.at.returns c).After-operand_of-n in
     let m = sym u.form ∙ o.if-n.false in
-    one_put Shipped _ _ 61 f refl (there (goal.at.returns c).Else-lacks_at) refl refl m (ap Done (sym (u.stands m) ∙ ap₂ number (sym (mod-eq_of_lt u.byte)) (omega arith))) p.put_at-2.ensures
+    one_put Shipped _ _ 61 f refl (there (goal.at.returns c).Else-lacks_at) refl refl m (ap Some (sym (u.stands m) ∙ ap₂ number (sym (mod-eq_of_lt u.byte)) (omega arith))) p.put_at-2.ensures

@@ -35,14 +35,14 @@ answer c =
     let n = sym y.form ∙ c.if-b.false in
     sym (c.division-answer.ensures ∙ ap₂ (restacked_quotient _) (packed_byte _ _ _ x.byte ∙ x.stands m) (packed_byte _ _ _ y.byte ∙ y.stands n))
 
-pub returns-in-Done : goal.returns-in-Done
+pub returns-in-Some : goal.returns-in-Some
 unfolding row_of
-returns-in-Done c =
-    let has_two = there (goal.at.returns-in-Done c).Else-lacks in
+returns-in-Some c =
+    let has_two = there (goal.at.returns-in-Some c).Else-lacks in
     let d = c.args.depth.now in
     let after : d - 1 ≡ d - 2 + 1 = omega (arith, has _ _ _ has_two) in
-    two_done c.args.edition c.args.stack.now d 5 quotient_of refl has_two (good (goal.at.returns-in-Done c).Else-b) _
-    (answer (goal.at.returns-in-Done c).After-division-answer ∙ c.in-Done.is)
+    two_done c.args.edition c.args.stack.now d 5 quotient_of refl has_two (good (goal.at.returns-in-Some c).Else-b) _
+    (answer (goal.at.returns-in-Some c).After-division-answer ∙ c.in-Some.is)
     ∙ ap₂ (λ (i : ℕ) (t : List ℕ). (outcome 0 i, t)) after (sym c.put_at.ensures)
 
 pub returns-then-odd_pair : goal.returns-then-odd_pair
@@ -74,8 +74,8 @@ pub overflow_sub-depth : goal.overflow_sub-depth
 unfolding row_of
 overflow_sub-depth c = omega (arith, has _ _ _ (there (goal.at.overflow_sub-depth c).Else-lacks))
 
-pub returns-in-TooBig : goal.returns-in-TooBig
+pub returns-in-None : goal.returns-in-None
 unfolding row_of
-returns-in-TooBig c =
-    two_too_big c.args.edition c.args.stack.now c.args.depth.now 5 quotient_of refl (there (goal.at.returns-in-TooBig c).Else-lacks) (good (goal.at.returns-in-TooBig c).Else-b)
-    (answer (goal.at.returns-in-TooBig c).After-division-answer ∙ c.in-TooBig.is)
+returns-in-None c =
+    two_too_big c.args.edition c.args.stack.now c.args.depth.now 5 quotient_of refl (there (goal.at.returns-in-None c).Else-lacks) (good (goal.at.returns-in-None c).Else-b)
+    (answer (goal.at.returns-in-None c).After-division-answer ∙ c.in-None.is)

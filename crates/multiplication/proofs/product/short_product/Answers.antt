@@ -1,10 +1,10 @@
 -- `short_product` meets its contract: each way out is a law of the product of two short numbers.
 use Rattle.std.proofs.Common.{ap, ap₂, arith, bit_xor, false, mul-le-mul, refl, sym, ℕ, ◌%◌, ◌*◌, ◌+◌, ◌-◌, ◌/◌, ◌<◌, ◌^◌, ◌||◌, ◌∙◌, ◌≡◌, ◌≤◌}
+use Rattle.std.specs.Prelude.{Some}
 use lib.Count.{count_leading_zeros}
 use Rattle.number.specs.Number.{number, malformed, low, full_of, short_of}
 use Rattle.number.specs.LeadingZeros.{zeros_are, zeros_below}
 use Rattle.number.specs.Restack.{full_of_short}
-use Rattle.ending.specs.declared.answer.Answer.TheVariants.{Done}
 use Rattle.division.proofs.DivisionLaws.{signs_differ}
 use Rattle.multiplication.specs.Multiplication.{short_product, sign_of_two}
 use Rattle.multiplication.specs.ShortProduct.{multiplied_malformed, product_none, product_some, product_exact}
@@ -70,8 +70,8 @@ returns-then-v-lt65536 c w v i j k l =
       form = sym n.formed;
       is = λ f.
           product_some _ _ refl refl (λ z. e.if-v-eq0.false (n.product ∙ z)) (omega (arith, n.product, t.if-v-lt65536.true))
-          ∙ ap₂ (λ (a b : ℕ). Done (number 0 (short_of a b).word)) (sym n.signs) (sym n.product)
-          ∙ ap (λ (a : ℕ). Done (number 0 a)) (sym c.short_word.ensures);
+          ∙ ap₂ (λ (a b : ℕ). Some (number 0 (short_of a b).word)) (sym n.signs) (sym n.product)
+          ∙ ap (λ (a : ℕ). Some (number 0 a)) (sym c.short_word.ensures);
     }
 
 pub returns : goal.returns
@@ -87,9 +87,9 @@ returns c w v i j k l =
       form = sym n.formed;
       is = λ f.
           product_exact _ _ refl refl (omega arith) (omega arith) (omega (arith, n.product, t.if-v-lt65536.false))
-          ∙ ap₂ (λ (a b : ℕ). Done (full_of_short a b)) (sym n.signs) (sym n.product)
-          ∙ ap (λ (k : ℕ). Done (full_of (s c.before.before.before.before.before.before.before.before) (160 - k) (m c.before.before.before.before.before.before.before.before * 2 ^ k))) (sym (counted c.before).0)
-          ∙ ap (λ (a : ℕ). Done (number (160 - z) a)) (sym (c.full_word.ensures ∙ word));
+          ∙ ap₂ (λ (a b : ℕ). Some (full_of_short a b)) (sym n.signs) (sym n.product)
+          ∙ ap (λ (k : ℕ). Some (full_of (s c.before.before.before.before.before.before.before.before) (160 - k) (m c.before.before.before.before.before.before.before.before * 2 ^ k))) (sym (counted c.before).0)
+          ∙ ap (λ (a : ℕ). Some (number (160 - z) a)) (sym (c.full_word.ensures ∙ word));
     }
 
 pub overflow_sub-result : goal.overflow_sub-result

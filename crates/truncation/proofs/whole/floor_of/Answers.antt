@@ -1,10 +1,10 @@
 -- `floor_of` meets its contract: the tests that led to each `return` are the premises of a law of `int_of`. Clearing places makes no number larger,
 -- and a bit at most 2^31 is set by a shift that loses nothing.
 use Rattle.std.proofs.Common.{ap, ap₂, arith, false, lt_of_le_of_lt, mod-eq_of_lt, one-mul, pow_mono, shl_exact, sym, ℕ, ◌%◌, ◌*◌, ◌+◌, ◌-◌, ◌/◌, ◌<◌, ◌^◌, ◌∙◌, ◌≡◌, ◌≤◌}
+use Rattle.std.specs.Prelude.{Some}
 use Rattle.edition.specs.declared.Edition.TheVariants.{Shipped}
 use Rattle.number.specs.declared.Number.{Number}
 use Rattle.number.specs.Number.{number, mantissa, full_of}
-use Rattle.ending.specs.declared.answer.Answer.TheVariants.{Done}
 use Rattle.truncation.specs.Truncate.{taken65536, cleared}
 use Rattle.truncation.specs.BitLaws.{cleared_le}
 use Rattle.truncation.specs.FloorLaws.{int_taken}
@@ -48,7 +48,7 @@ returns-then-more-lt4294967296 c =
     let d = c in
     let r = raised c.before.before.before (omega arith) in
     int_up Shipped (x c.before.before.before) (omega arith) (omega arith) (omega arith) (omega arith) (other c.before.before.before) (λ e. c.if-cut-m.false (cut c.before.before.before ∙ e)) (omega arith)
-    ∙ ap (λ (w : ℕ). Done (number (x c.before.before.before).b1 w)) (sym (c.full_word.ensures ∙ ap (λ (m : ℕ). (full_of 1 0 m).word) r))
+    ∙ ap (λ (w : ℕ). Some (number (x c.before.before.before).b1 w)) (sym (c.full_word.ensures ∙ ap (λ (m : ℕ). (full_of 1 0 m).word) r))
 
 pub returns : goal.returns
 returns c =
@@ -57,4 +57,4 @@ returns c =
     let less = cleared_le (mantissa (x c.before.before.before)) (places c.before.before.before) in
     int_up_carried Shipped (x c.before.before.before) (omega arith) (omega arith) (omega arith) (omega arith) (other c.before.before.before) (λ e. c.if-cut-m.false (cut c.before.before.before ∙ e))
     (omega arith) (omega (arith, (bit (places c.before.before.before) (omega arith)).1))
-    ∙ ap (λ (w : ℕ). Done (number ((x c.before.before.before).b1 + 1) w)) (sym (c.full_word-2.ensures ∙ ap (λ (m : ℕ). (full_of 1 0 (m / 2)).word) r))
+    ∙ ap (λ (w : ℕ). Some (number ((x c.before.before.before).b1 + 1) w)) (sym (c.full_word-2.ensures ∙ ap (λ (m : ℕ). (full_of 1 0 (m / 2)).word) r))

@@ -1,9 +1,9 @@
 -- `short_floor` meets its contract: a law of `int_of` for each sign.
 use Rattle.std.proofs.Common.{ap, ap₂, arith, eq-eqb, eq-zero-or-pos, inl, inr, ne_eqb, sym, ℕ, ◌*◌, ◌-◌, ◌/◌, ◌<◌, ◌^◌, ◌∙◌, ◌≡◌, ◌⊎◌}
+use Rattle.std.specs.Prelude.{Some}
 use Rattle.edition.specs.declared.Edition.TheVariants.{Shipped}
 use Rattle.number.specs.declared.Number.{Number}
 use Rattle.number.specs.Number.{number, sign, mantissa, halves, short_of}
-use Rattle.ending.specs.declared.answer.Answer.TheVariants.{Done}
 use Rattle.truncation.specs.TruncateLaws.{truncate_full, truncate_to_short}
 use Rattle.truncation.specs.BitLaws.{dropped_lt}
 use Rattle.truncation.specs.Int.{int_of}
@@ -28,13 +28,13 @@ returns c = go (eq-zero-or-pos (sign x))
     k = 160 - x.b1
 
     -- what is put, by its sign byte and low half
-    put : (b h : ℕ) → 255 * sign x ≡ b → c.flipped.result ≡ h → Done (halves b h) ≡ Done (number 0 c.halves_word.result)
-    put b h e f = ap (λ (n : ℕ). Done (number 0 n)) (sym (c.halves_word.ensures ∙ ap₂ (λ (y z : ℕ). (halves y z).word) e f))
+    put : (b h : ℕ) → 255 * sign x ≡ b → c.flipped.result ≡ h → Some (halves b h) ≡ Some (number 0 c.halves_word.result)
+    put b h e f = ap (λ (n : ℕ). Some (number 0 n)) (sym (c.halves_word.ensures ∙ ap₂ (λ (y z : ℕ). (halves y z).word) e f))
 
-    go : (sign x ≡ 0) ⊎ (0 < sign x) → int_of Shipped x ≡ Done (number 0 c.halves_word.result)
+    go : (sign x ≡ 0) ⊎ (0 < sign x) → int_of Shipped x ≡ Some (number 0 c.halves_word.result)
     go (inl z) =
         int_positive Shipped x z
-        ∙ ap Done (truncate_full Shipped x (omega (arith, i.requires)) ∙ truncate_to_short Shipped x i.requires.0 i.requires.1 ∙ ap (λ (s : ℕ). short_of s (m / 2 ^ k)) z)
+        ∙ ap Some (truncate_full Shipped x (omega (arith, i.requires)) ∙ truncate_to_short Shipped x i.requires.0 i.requires.1 ∙ ap (λ (s : ℕ). short_of s (m / 2 ^ k)) z)
         ∙ put 0 (m / 2 ^ k) (omega arith) (c.flipped.ensures ∙ simp (eq-eqb (sign x) 0 z) (ap (λ (n : ℕ). n / 2 ^ k) {x = m - sign x} {y = m} (omega arith)))
     go (inr p) =
         let one : sign x ≡ 1 = omega (arith, p) in
