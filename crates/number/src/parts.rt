@@ -1,26 +1,36 @@
 // What the word of a number is made of, taken apart and put together. A word is handed on by itself: the compiler then keeps it in a register.
 ghost use Rattle.std.specs.Prelude.{◌≡◌, ◌+◌, ◌*◌, ◌/◌, ◌%◌};
-ghost use Rattle.number.specs.Number.{number, word_of, swapped_of, low, complement_of, short_magnitude, full_of, halves, short_of};
+ghost use Rattle.number.specs.Number.{number, word_of, swapped_of, low, complement_of, short_magnitude, mantissa, full_of, halves, short_of};
+
+// The top bit of a word: the sign of a number, and of a mantissa the bit that goes without saying.
+pub const TOP_BIT: u32 = 1 << 31;
+
+// The mantissa of a full number, from its word.
+pub fn mantissa(word: u32) -> u32
+    ensures { result ≡ mantissa (number 0 word) }
+{
+    word % TOP_BIT + TOP_BIT
+}
 
 // The word of four bytes.
 pub fn joined(b2: u8, b3: u8, b4: u8, b5: u8) -> u32
     ensures { result ≡ word_of b2 b3 b4 b5 }
 {
-    b2 as u32 * 16777216 + b3 as u32 * 65536 + b4 as u32 * 256 + b5 as u32
+    u32::from_be_bytes([b2, b3, b4, b5])
 }
 
 // The word of its four bytes in the other order.
 pub fn swapped(w: u32) -> u32
     ensures { result ≡ swapped_of w }
 {
-    w % 256 * 16777216 + w / 256 % 256 * 65536 + w / 65536 % 256 * 256 + w / 16777216
+    w.swap_bytes()
 }
 
 // Two's complement on sixteen bits.
 pub fn complement(h: u16) -> u16
     ensures { result ≡ complement_of h }
 {
-    std::num::wrapping_add_u16(65535 - h, 1)
+    h.wrapping_neg()
 }
 
 // A short number's low byte comes first, as the machine has it: with the word swapped, its low half stands as it is.
@@ -34,7 +44,7 @@ pub fn short_magnitude(word: u32) -> u16
     ensures { result ≡ short_magnitude (number 0 word) }
 {
     let h = low_half(word);
-    if word < 2147483648 {
+    if word < TOP_BIT {
         return h;
     }
     complement(h)
@@ -43,7 +53,7 @@ pub fn short_magnitude(word: u32) -> u16
 pub fn full_word(sign: u8, m: u64) -> u32
     ensures { result ≡ (full_of sign 0 m).word }
 {
-    (m % 2147483648) as u32 + 2147483648 * (sign % 2) as u32
+    (m % TOP_BIT as u64) as u32 + TOP_BIT * (sign % 2) as u32
 }
 
 pub fn halves_word(sign_byte: u8, h: u16) -> u32
