@@ -19,14 +19,10 @@ pub fn form_of(x: Number) -> Form
     if x.b1 != 0 {
         return Form::Full;
     }
-    if x.word < 16777216 {
-        return Form::Short;
+    match x.word {
+        0..=0x00FF_FFFF => Form::Short,
+        0x0100_0000..=0xFEFF_FFFF => Form::Malformed,
+        0xFF00_0000..=0xFF00_00FF => Form::Odd,
+        _ => Form::Short,
     }
-    if x.word < 4278190080 {
-        return Form::Malformed;
-    }
-    if x.word < 4278190336 {
-        return Form::Odd;
-    }
-    Form::Short
 }
