@@ -2,19 +2,25 @@
 ghost use Rattle.std.specs.Prelude.{◌≡◌, ℕ, ◌≤◌};
 ghost use Rattle.ending.specs.Ending.{loose, closed};
 
-use number::Number;
+use number::{Number, TOP_BIT};
+
+// An exponent is kept with this added.
+pub const BIAS: u64 = 256;
+
+// The largest exponent byte, so kept.
+const LARGEST: u64 = BIAS + 255;
 
 pub fn close(sign: u8, t: u32, e: u64, digits: u64) -> Option<Number>
     ensures { result ≡ closed sign (loose t e digits) }
 {
-    if 511 < e {
+    if LARGEST < e {
         return None;
     }
-    if e < 257 {
+    if e <= BIAS {
         return least(sign, e);
     }
     Some(Number {
-        b1: (e - 256) as u8,
+        b1: (e - BIAS) as u8,
         word: number::full_word(sign, t as u64 + digits % 2),
     })
 }
@@ -24,11 +30,11 @@ fn least(sign: u8, e: u64) -> Option<Number>
     requires { e ≤ 256 }
     ensures { (t digits : ℕ) → result ≡ closed sign (loose t e digits) }
 {
-    if e < 256 {
-        return Some(Number { b1: 0, word: 0 });
+    if e < BIAS {
+        return Some(Number::ZERO);
     }
     Some(Number {
         b1: 1,
-        word: number::full_word(sign, 2147483648),
+        word: number::full_word(sign, TOP_BIT as u64),
     })
 }

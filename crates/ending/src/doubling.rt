@@ -3,8 +3,8 @@ ghost use Rattle.std.specs.Prelude.{◌≡◌, ◌≤◌};
 ghost use Rattle.ending.specs.Ending.{ended};
 ghost use Rattle.ending.specs.Shift.{taken_in};
 
-use crate::closing::close;
-use number::Number;
+use crate::closing::{BIAS, close};
+use number::{Number, TOP_BIT};
 
 // The digits that so many doublings take in: the next one, which is the lowest of those that are there, comes to stand highest. A sum hands over none, and is done
 // at once.
@@ -25,14 +25,14 @@ fn taken_in(digits: u64, places: u32) -> u32
 pub fn ending(sign: u8, t: u32, e: u64, digits: u64) -> Option<Number>
     ensures { result ≡ ended sign t e digits }
 {
-    if 2147483648 <= t {
+    if TOP_BIT <= t {
         return close(sign, t, e, digits);
     }
     if t == 0 {
-        return Some(Number { b1: 0, word: 0 });
+        return Some(Number::ZERO);
     }
-    if e < 256 {
-        return Some(Number { b1: 0, word: 0 });
+    if e < BIAS {
+        return Some(Number::ZERO);
     }
     let places = number::leading_zeros(t);
     let fall = places as u64;

@@ -6,5 +6,5 @@
 mod closing;
 mod doubling;
 
-pub use closing::close;
+pub use closing::{BIAS, close};
 pub use doubling::ending;

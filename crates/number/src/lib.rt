@@ -21,3 +21,7 @@ pub struct Number {
     pub word: u32,
     pub b1: u8,
 }
+
+impl Number {
+    pub const ZERO: Number = Number { word: 0, b1: 0 };
+}

@@ -5,8 +5,8 @@ use Rattle.number.specs.Number.{number}
 use Rattle.ending.proofs.EndingLaws.{closed_too_big, closed_stored}
 use Rattle.ending.proofs.closing.close.Goals as goal
 
-pub returns-then-e-gt511 : goal.returns-then-e-gt511
-returns-then-e-gt511 c = sym (closed_too_big _ _ (omega arith))
+pub returns-then-e-gt-LARGEST : goal.returns-then-e-gt-LARGEST
+returns-then-e-gt-LARGEST c = sym (closed_too_big _ _ (omega arith))
 
 pub returns : goal.returns
 returns c = ap (λ (w : ℕ). Some (number (c.args.e - 256) w)) c.full_word.ensures ∙ sym (closed_stored _ _ (omega arith) (omega arith))

@@ -18,14 +18,14 @@ fits : (c : After-taken_in) → (let i = c.args in let z = c.leading_zeros-place
     (i.t * 2 ^ z % 2 ^ 32 + c.taken_in.result ≡ i.t * 2 ^ z + taken_in z i.digits) × (i.t * 2 ^ z + taken_in z i.digits < 2 ^ 32))
 fits c = let k = c in shift_fits _ _ _ _ (omega arith) k.if-t-eq0.false k.leading_zeros-places.ensures c.taken_in.ensures
 
-pub returns-then-t-ge2147483648 : goal.returns-then-t-ge2147483648
-returns-then-t-ge2147483648 c = c.close.ensures ∙ sym (ended_set _ _ _ _ (omega arith))
+pub returns-then-t-ge-TOP_BIT : goal.returns-then-t-ge-TOP_BIT
+returns-then-t-ge-TOP_BIT c = c.close.ensures ∙ sym (ended_set _ _ _ _ (omega arith))
 
 pub returns-then-t-eq0 : goal.returns-then-t-eq0
 returns-then-t-eq0 c = sym (ended_zero _ _ _ _ (omega arith))
 
-pub returns-then-e-lt256 : goal.returns-then-e-lt256
-returns-then-e-lt256 c = sym (ended_below _ _ _ _ (omega arith))
+pub returns-then-e-lt-BIAS : goal.returns-then-e-lt-BIAS
+returns-then-e-lt-BIAS c = sym (ended_below _ _ _ _ (omega arith))
 
 pub overflow_cast-fall : goal.overflow_cast-fall
 overflow_cast-fall c = omega (arith, z_below c)
