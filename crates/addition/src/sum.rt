@@ -3,7 +3,12 @@ ghost use Rattle.std.specs.Prelude.{◌≡◌, ◌+◌, ◌%◌, ◌^◌, ◌<�
 ghost use Rattle.number.specs.Value.{signed};
 ghost use Rattle.addition.specs.Addition.{negative, aligned, ended_sum, signed_sum};
 
+use ending::BIAS;
 use number::Number;
+use std::hint::select_unpredictable;
+
+// What carries out of a word.
+const CARRY: u64 = 1 << 32;
 
 // A mantissa moved down by some places, halves towards plus infinity. Twice it is moved, and half of one more than that is the floor: no place is a case of
 // its own.
@@ -17,32 +22,13 @@ fn shifted(x: i64, places: u32) -> i64
     ((2 * x >> places) + 1) >> 1
 }
 
-fn sign_of(z: i64) -> u8
-    ensures { result ≡ negative z }
-{
-    if z < 0 {
-        return 1;
-    }
-    0
-}
-
-fn magnitude(z: i64) -> u64
-    requires { unsigned_abs z < 2 ^ 33 }
-    ensures { result ≡ unsigned_abs z }
-{
-    if z < 0 {
-        return (0 - z) as u64;
-    }
-    z as u64
-}
-
 // The ending of a sum, which may have carried into a 33rd bit: then half of it has its top bit set.
 fn carry_and_end(sign: u8, t: u64, e: u32) -> Option<Number>
     requires { (sign < 2) × (t + 1 < 2 ^ 33) × (e < 256) }
     ensures { result ≡ ended_sum (signed sign t) e }
 {
-    if t < 4294967296 {
-        return ending::ending(sign, t as u32, e as u64 + 256, 0);
+    if t < CARRY {
+        return ending::ending(sign, t as u32, e as u64 + BIAS, 0);
     }
     if e == 255 {
         return None;
@@ -57,7 +43,7 @@ fn ended(z: i64, e: u32) -> Option<Number>
     requires { (unsigned_abs z + 1 < 2 ^ 33) × (e < 256) }
     ensures { result ≡ ended_sum z e }
 {
-    carry_and_end(sign_of(z), magnitude(z), e)
+    carry_and_end(z.is_negative() as u8, z.unsigned_abs(), e)
 }
 
 // Two mantissas whose exponent bytes are so many places apart, the larger first.
@@ -71,25 +57,7 @@ fn summed(x: i64, y: i64, places: u32, e: u32) -> Option<Number>
 fn low_bits(x: i64) -> i64
     ensures { result ≡ int_rem x (pos 4294967296) }
 {
-    x % 4294967296
-}
-
-fn larger(e: u32, f: u32) -> u32
-    ensures { result ≡ max e f }
-{
-    if e < f {
-        return f;
-    }
-    e
-}
-
-fn chosen(first: bool, x: i64, y: i64) -> i64
-    ensures { result ≡ (if first then x else y) }
-{
-    if first {
-        return x;
-    }
-    y
+    x % CARRY as i64
 }
 
 // Of two mantissas with their signs and their exponent bytes, each the low bits of what is handed over: the compiler knows that there is nothing above. The larger
@@ -102,10 +70,10 @@ pub fn aligned_sum(x: i64, e: u32, y: i64, f: u32) -> Option<Number>
     let first = e % 256;
     let second = f % 256;
     let late = first < second;
-    let most = larger(first, second);
+    let most = first.max(second);
     summed(
-        chosen(late, n, m),
-        chosen(late, m, n),
+        select_unpredictable(late, n, m),
+        select_unpredictable(late, m, n),
         2 * most - (first + second),
         most,
     )

@@ -5,7 +5,7 @@ use Rattle.addition.specs.Addition.{aligned, ended_sum}
 use Rattle.addition.specs.SignedLaws.{low_bits_lt, held}
 use Rattle.addition.proofs.MantissaLaws.{larger_chosen}
 use Rattle.addition.proofs.sum.aligned_sum.Goals as goal
-use Rattle.addition.proofs.sum.aligned_sum.Goals.{After-chosen, After-chosen-2, After-low_bits-n, Start}
+use Rattle.addition.proofs.sum.aligned_sum.Goals.{After-select_unpredictable, After-select_unpredictable-2, After-low_bits-n, Start}
 
 abbrev cut : ℤ → ℤ
 cut z = rem_z z (pos 4294967296)
@@ -35,19 +35,19 @@ picked b r p q y z e f g = held _ _ (e ∙ ap₂ (cond b) f g) (omega (arith, ei
 unfoldable late : Start → Bool
 late c = ltb (c.args.e % 256) (c.args.f % 256)
 
-large : (c : After-chosen) → (let i = c in to_z w64 (of_z w64 c.chosen.result) ≡ cond (late c.before.before.before.before) (cut i.args.y) (cut i.args.x))
+large : (c : After-select_unpredictable) → (let i = c in to_z w64 (of_z w64 c.select_unpredictable.result) ≡ cond (late c.before.before.before.before) (cut i.args.y) (cut i.args.x))
 unfolding late
 large c =
     let d = c in
     let i = c in
-    picked (late c.before.before.before.before) _ _ _ i.args.y i.args.x c.chosen.ensures (y c.before.before) (x c.before.before)
+    picked (late c.before.before.before.before) _ _ _ i.args.y i.args.x c.select_unpredictable.ensures (y c.before.before) (x c.before.before)
 
-small : (c : After-chosen-2) → (let i = c in to_z w64 (of_z w64 c.chosen-2.result) ≡ cond (late c.before.before.before.before.before) (cut i.args.x) (cut i.args.y))
+small : (c : After-select_unpredictable-2) → (let i = c in to_z w64 (of_z w64 c.select_unpredictable-2.result) ≡ cond (late c.before.before.before.before.before) (cut i.args.x) (cut i.args.y))
 unfolding late
 small c =
     let d = c in
     let i = c in
-    picked (late c.before.before.before.before.before) _ _ _ i.args.x i.args.y c.chosen-2.ensures (x c.before.before.before) (y c.before.before.before)
+    picked (late c.before.before.before.before.before) _ _ _ i.args.x i.args.y c.select_unpredictable-2.ensures (x c.before.before.before) (y c.before.before.before)
 
 pub returns : goal.returns
 unfolding late
@@ -56,8 +56,8 @@ returns c =
     let i = c in
     let e = i.args.e % 256 in
     let f = i.args.f % 256 in
-    let n = d.larger-most.result in
+    let n = d.max-most.result in
     c.summed.ensures
     ∙ ap₂ (λ (j k : ℤ). ended_sum (j +ℤ aligned (2 * n - (e + f)) k) n) (large c.before.before) (small c.before)
-    ∙ ap (λ (m : ℕ). ended_sum (cond (late c.before.before.before.before.before.before) (cut i.args.y) (cut i.args.x) +ℤ aligned (2 * m - (e + f)) (cond (late c.before.before.before.before.before.before) (cut i.args.x) (cut i.args.y))) m) d.larger-most.ensures
+    ∙ ap (λ (m : ℕ). ended_sum (cond (late c.before.before.before.before.before.before) (cut i.args.y) (cut i.args.x) +ℤ aligned (2 * m - (e + f)) (cond (late c.before.before.before.before.before.before) (cut i.args.x) (cut i.args.y))) m) d.max-most.ensures
     ∙ sym (larger_chosen (cut i.args.x) (cut i.args.y) e f)

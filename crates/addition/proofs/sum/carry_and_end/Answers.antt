@@ -10,8 +10,8 @@ returns c =
     let e = c.args.e in
     ap (λ (w : ℕ). Some (number (e + 1) w)) c.full_word.ensures ∙ sym (sum_stored _ _ _ (omega arith) (omega arith) (omega arith) (omega arith))
 
-pub returns-then-t-lt4294967296 : goal.returns-then-t-lt4294967296
-returns-then-t-lt4294967296 c = c.ending.ensures ∙ sym (sum_ended _ _ _ (omega arith) (omega arith))
+pub returns-then-t-lt-CARRY : goal.returns-then-t-lt-CARRY
+returns-then-t-lt-CARRY c = c.ending.ensures ∙ sym (sum_ended _ _ _ (omega arith) (omega arith))
 
 pub returns-then-e-eq255 : goal.returns-then-e-eq255
 returns-then-e-eq255 c = let a = c.args in sym (sum_too_big a.sign a.t a.e (omega arith) (omega arith) (omega arith))
