@@ -1,7 +1,6 @@
 // The short route of `addition`, for two numbers whose b1 is 0, each by its sign byte and its low half.
 ghost use Rattle.std.specs.Prelude.{◌≡◌, ℕ, ◌/◌, ◌^◌};
 ghost use Rattle.number.specs.Number.{number, low};
-ghost use Rattle.addition.specs.ShortRouteLaws.{carry_of};
 ghost use Rattle.addition.specs.SecondHalves.{second_halves, added_halves};
 ghost use Rattle.addition.specs.SignBytes.{Says, seventeen_of};
 
@@ -22,16 +21,6 @@ struct Halves {
     low: u16,
 }
 
-// The carry of a sum of sixteen-bit numbers, found from the wrapped sum. Of a difference it is the borrow.
-fn carry_of(sum: u16, first: u16) -> u8
-    ensures { result ≡ carry_of sum first }
-{
-    if sum < first {
-        return 1;
-    }
-    0
-}
-
 // The low halves and, with the carry, the sign bytes. Taking away is adding what is negated; odd is negated to zero, as zero is.
 fn total(b: u8, first: u16, c: u8, other: u16, less: bool) -> Halves
     ensures { result ≡ added_halves b first (second_halves less c other) }
@@ -43,17 +32,16 @@ fn total(b: u8, first: u16, c: u8, other: u16, less: bool) -> Halves
                 low: first,
             };
         }
-        let bytes = std::num::wrapping_sub_u8(b, c);
+        let (low, borrow) = first.overflowing_sub(other);
         return Halves {
-            byte: std::num::wrapping_sub_u8(bytes, carry_of(first, other)),
-            low: std::num::wrapping_sub_u16(first, other),
+            byte: b.wrapping_sub(c).wrapping_sub(borrow as u8),
+            low,
         };
     }
-    let sum = std::num::wrapping_add_u16(first, other);
-    let bytes = std::num::wrapping_add_u8(b, c);
+    let (low, carry) = first.overflowing_add(other);
     Halves {
-        byte: std::num::wrapping_add_u8(bytes, carry_of(sum, first)),
-        low: sum,
+        byte: b.wrapping_add(c).wrapping_add(carry as u8),
+        low,
     }
 }
 
@@ -65,7 +53,7 @@ fn seventeen(byte: u8, low: u16) -> u32
     if byte < 128 {
         return digits;
     }
-    std::num::wrapping_sub_u32(0, digits)
+    digits.wrapping_neg()
 }
 
 // The sign bytes settle the seventeenth bit, as in the listing: they and the carry make 0 or 255, a sign byte again, where the sum is stored short.
@@ -74,11 +62,11 @@ pub fn short_sum(b: u8, first: u16, c: u8, other: u16, less: bool) -> Short
         → Says less (number 0 x) (number 0 y) result }
 {
     // One more than 00 or FF is 1 or 0, and one question asks both.
-    if (std::num::wrapping_add_u8(b, 1) | std::num::wrapping_add_u8(c, 1)) > 1 {
+    if (b.wrapping_add(1) | c.wrapping_add(1)) > 1 {
         return Short::Malformed;
     }
     let sum = total(b, first, c, other, less);
-    if std::num::wrapping_add_u8(sum.byte, 1) < 2 {
+    if sum.byte.wrapping_add(1) < 2 {
         return Short::Stored(sum.byte, sum.low);
     }
     // Odd, which the full route takes for zero: no other low half is 0 here.

@@ -1,7 +1,7 @@
 // The full route of `addition`, on mantissas that have their signs.
-ghost use Rattle.std.specs.Prelude.{◌≡◌, ◌+◌, ◌%◌, ◌^◌, ◌<◌, max, pos, ◌+ℤ◌, if◌then◌else◌, int_rem, unsigned_abs};
+ghost use Rattle.std.specs.Prelude.{◌≡◌, ◌+◌, ◌%◌, ◌^◌, ◌<◌, pos, ◌+ℤ◌, int_rem, unsigned_abs};
 ghost use Rattle.number.specs.Value.{signed};
-ghost use Rattle.addition.specs.Addition.{negative, aligned, ended_sum, signed_sum};
+ghost use Rattle.addition.specs.Addition.{aligned, ended_sum, signed_sum};
 
 use ending::BIAS;
 use number::Number;

@@ -7,15 +7,15 @@ use Rattle.addition.specs.SecondHalves.{second_halves, added_halves}
 use Rattle.addition.specs.SignBytes.{Says, seventeen_of, Formed}
 use Rattle.addition.proofs.SignBytesLaws.{one_unformed, both_formed, answer_stored, answer_beyond, answer_exact}
 use Rattle.addition.proofs.short.short_sum.Goals as goal
-use Rattle.addition.proofs.short.short_sum.Goals.{After-total-sum, Else-wrapping_add_u8-gt1, Else-wrapping_add_u8-lt2}
+use Rattle.addition.proofs.short.short_sum.Goals.{After-total-sum, Else-b-c-gt1, Else-sum-lt2}
 
 -- one more than a sign byte, as it is tested
-byte : (b w k : ℕ) → k ≡ (b + 1) % 256 → w / 2 ^ 24 ≡ b → k ≡ (w / 2 ^ 24 + 1) % 256
-byte b w k e i = e ∙ ap (λ (n : ℕ). (n + 1) % 256) (sym i)
+byte : (b w : ℕ) → w / 2 ^ 24 ≡ b → (b + 1) % 256 ≡ (w / 2 ^ 24 + 1) % 256
+byte b w i = ap (λ (n : ℕ). (n + 1) % 256) (sym i)
 
-formed : (c : Else-wrapping_add_u8-gt1) (x y : ℕ) → (let a = c.args in x / 2 ^ 24 ≡ a.b → y / 2 ^ 24 ≡ a.c → Formed x y)
+formed : (c : Else-b-c-gt1) (x y : ℕ) → (let a = c.args in x / 2 ^ 24 ≡ a.b → y / 2 ^ 24 ≡ a.c → Formed x y)
 formed c x y i p =
-    both_formed x y _ _ (omega arith) (omega arith) (byte _ x _ c.wrapping_add_u8.ensures.value i) (byte _ y _ c.wrapping_add_u8-2.ensures.value p) c.if-wrapping_add_u8-gt1.false
+    both_formed x y _ _ (omega arith) (omega arith) (byte _ x i) (byte _ y p) c.if-b-c-gt1.false
 
 -- what `total` made, by the words
 summed : (c : After-total-sum) (x y : ℕ) → (let a = c.args in
@@ -28,30 +28,30 @@ summed c x y i j p q =
     ∙ ap₂ (λ (b g : ℕ). added_halves (x / 2 ^ 24) (low (number 0 x)) (second_halves a.less b g)) (sym p) (sym q)
 
 -- a sum that is not short
-large : (c : Else-wrapping_add_u8-lt2) (x y : ℕ) → (let t = c in let a = t.args in
+large : (c : Else-sum-lt2) (x y : ℕ) → (let t = c in let a = t.args in
     x / 2 ^ 24 ≡ a.b → low (number 0 x) ≡ a.first → y / 2 ^ 24 ≡ a.c → low (number 0 y) ≡ a.other
     → 2 ≤ ((added_halves (x / 2 ^ 24) (low (number 0 x)) (second_halves a.less (y / 2 ^ 24) (low (number 0 y)))).byte + 1) % 256)
 large c x y i j p q =
     let t = c in
-    let more : 2 ≤ (t.total-sum.result.byte + 1) % 256 = omega (arith, c.wrapping_add_u8-3.ensures.value, c.if-wrapping_add_u8-lt2.false) in
+    let more : 2 ≤ (t.total-sum.result.byte + 1) % 256 = omega (arith, c.if-sum-lt2.false) in
     subst (λ (h : Halves). 2 ≤ (h.byte + 1) % 256) (summed c.before.before x y i j p q) more
 
-beyond : (c : Else-wrapping_add_u8-lt2) (x y : ℕ) → (let t = c in let a = t.args in
+beyond : (c : Else-sum-lt2) (x y : ℕ) → (let t = c in let a = t.args in
     x / 2 ^ 24 ≡ a.b → low (number 0 x) ≡ a.first → y / 2 ^ 24 ≡ a.c → low (number 0 y) ≡ a.other → Says a.less (number 0 x) (number 0 y) Beyond)
 beyond c x y i j p q =
     let t = c in
     answer_beyond t.args.less x y (omega arith) (omega arith) (formed c.before.before.before x y i p) (large c x y i j p q)
 
-pub returns-then-wrapping_add_u8-gt1 : goal.returns-then-wrapping_add_u8-gt1
-returns-then-wrapping_add_u8-gt1 c x y i j p q =
-    one_unformed x y _ _ (omega arith) (omega arith) (byte _ x _ c.wrapping_add_u8.ensures.value i) (byte _ y _ c.wrapping_add_u8-2.ensures.value p) c.if-wrapping_add_u8-gt1.true _
+pub returns-then-b-c-gt1 : goal.returns-then-b-c-gt1
+returns-then-b-c-gt1 c x y i j p q =
+    one_unformed x y _ _ (omega arith) (omega arith) (byte _ x i) (byte _ y p) c.if-b-c-gt1.true _
 
-pub returns-then-wrapping_add_u8-lt2 : goal.returns-then-wrapping_add_u8-lt2
-returns-then-wrapping_add_u8-lt2 c x y i j p q =
+pub returns-then-sum-lt2 : goal.returns-then-sum-lt2
+returns-then-sum-lt2 c x y i j p q =
     let t = c in
     let less = t.args.less in
     let same = summed c.before.before x y i j p q in
-    let small : (t.total-sum.result.byte + 1) % 256 < 2 = omega (arith, c.wrapping_add_u8-3.ensures.value, c.if-wrapping_add_u8-lt2.true) in
+    let small : (t.total-sum.result.byte + 1) % 256 < 2 = omega (arith, c.if-sum-lt2.true) in
     subst (λ (h : Halves). Says less (number 0 x) (number 0 y) (Stored h.byte h.low)) (sym same)
     (answer_stored less x y (omega arith) (omega arith) (formed c.before.before.before x y i p) (subst (λ (h : Halves). (h.byte + 1) % 256 < 2) same small))
 
