@@ -4,11 +4,8 @@ ghost use Rattle.number.specs.Value.{signed};
 ghost use Rattle.addition.specs.Addition.{aligned, ended_sum, signed_sum};
 
 use ending::BIAS;
-use number::Number;
+use number::{CARRY, Number};
 use std::hint::select_unpredictable;
-
-// What carries out of a word.
-const CARRY: u64 = 1 << 32;
 
 // A mantissa moved down by some places, halves towards plus infinity. Twice it is moved, and half of one more than that is the floor: no place is a case of
 // its own.

@@ -1,10 +1,11 @@
 // Multiplication: one machine product, where the ROM adds and shifts.
 ghost use Rattle.std.specs.Prelude.{◌≡◌, ℕ, ◌+◌, ◌*◌, ◌^◌, ◌/◌, ◌%◌};
-ghost use Rattle.number.specs.Number.{number, zeros, low};
+ghost use Rattle.number.specs.Number.{number, low};
 ghost use Rattle.multiplication.specs.Places.{product_at};
 ghost use Rattle.multiplication.specs.ShortProduct.{Multiplied};
 
-use number::Number;
+use ending::BIAS;
+use number::{CARRY, Number, TOP_BIT};
 
 // What two numbers whose b1 is 0 come to, unless one is malformed.
 #[derive(Clone, Copy)]
@@ -59,34 +60,28 @@ pub fn short_product(b: u32, h: u16, c: u32, k: u16) -> Product
     }
 }
 
-fn zero() -> Option<Number>
-    ensures { result ≡ Some zeros }
-{
-    Some(Number { b1: 0, word: 0 })
-}
-
 // Of a mantissa, whose top bit goes without saying, and what it is multiplied by: another mantissa, or a short number's magnitude, which need not be made normal
 // first. The sign is the top bit of a word, and e is the sum of the exponent bytes, a magnitude's being 160.
 pub fn multiplication(sign: u32, m: u32, n: u32, e: u32) -> Option<Number>
     ensures { result ≡ product_at (sign / 2 ^ 31) ((m % 2 ^ 31 + 2 ^ 31) * n) e }
 {
-    let p = ((m % 2147483648) as u64 + 2147483648) * n as u64;
+    let p = number::mantissa(m) as u64 * n as u64;
     if p == 0 {
-        return zero();
+        return Some(Number::ZERO);
     }
-    let places = u64::leading_zeros(p) as u64;
+    let places = p.leading_zeros() as u64;
     // The ending keeps an exponent as e + 256.
     let before = e as u64 + 128 - places;
-    if before < 257 {
-        return ending::close((sign / 2147483648) as u8, 0, before, 0);
+    if before <= BIAS {
+        return ending::close((sign / TOP_BIT) as u8, 0, before, 0);
     }
     // From its top bit on, the mantissa and one digit more, which rounds it. Where that carries to 2^32, the exponent rises and the bits that are stored are
     // those of 2^31.
-    let rounded = ((p << places) / 2147483648 + 1) / 2;
+    let rounded = ((p << places) / TOP_BIT as u64 + 1) / 2;
     ending::close(
-        (sign / 2147483648) as u8,
-        (rounded % 2147483648) as u32,
-        before + rounded / 4294967296,
+        (sign / TOP_BIT) as u8,
+        (rounded % TOP_BIT as u64) as u32,
+        before + rounded / CARRY,
         0,
     )
 }

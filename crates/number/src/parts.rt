@@ -5,6 +5,9 @@ ghost use Rattle.number.specs.Number.{number, word_of, swapped_of, low, compleme
 // The top bit of a word: the sign of a number, and of a mantissa the bit that goes without saying.
 pub const TOP_BIT: u32 = 1 << 31;
 
+// What carries out of a word.
+pub const CARRY: u64 = 1 << 32;
+
 // The mantissa of a full number, from its word.
 pub fn mantissa(word: u32) -> u32
     ensures { result ≡ mantissa (number 0 word) }

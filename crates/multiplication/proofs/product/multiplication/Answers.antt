@@ -3,19 +3,23 @@ use Rattle.std.proofs.Common.{ap, arith, mod-eq_of_lt, mul-le-mul, refl, sym, �
 use lib.Count.{count_leading_zeros}
 use Rattle.multiplication.specs.MultiplicationLaws.{ended_low, ended_high}
 use Rattle.multiplication.specs.Multiplication.{ended_product}
-use Rattle.multiplication.specs.Places.{rounded_at, at_zero, at_some}
+use Rattle.multiplication.specs.Places.{product_at, rounded_at, at_zero, at_some}
 use Rattle.number.specs.LeadingZeros.{top_set}
 use Rattle.multiplication.proofs.product.multiplication.Goals as goal
-use Rattle.multiplication.proofs.product.multiplication.Goals.{Else-p-eq0, Start}
+use Rattle.multiplication.proofs.product.multiplication.Goals.{Else-p-eq0, After-mantissa}
 
 -- a product of two numbers below 2^32
-fits : (c : Start) → (let i = c.args in (i.m % 2 ^ 31 + 2 ^ 31) * i.n ≤ (2 ^ 32 - 1) * (2 ^ 32 - 1))
+fits : (c : After-mantissa) → c.mantissa.result * c.args.n ≤ (2 ^ 32 - 1) * (2 ^ 32 - 1)
 fits c = mul-le-mul {n₂ = 2 ^ 32 - 1} {m₂ = 2 ^ 32 - 1} (omega arith) (omega arith)
+
+-- the product is that of the mantissa
+whole : (c : After-mantissa) → (let i = c.args in product_at (i.sign / 2 ^ 31) (c.mantissa.result * i.n) i.e ≡ product_at (i.sign / 2 ^ 31) ((i.m % 2 ^ 31 + 2 ^ 31) * i.n) i.e)
+whole c = let i = c.args in ap (λ (k : ℕ). product_at (i.sign / 2 ^ 31) (k * i.n) i.e) c.mantissa.ensures
 
 -- the product, which is not zero
 module _ (c : Else-p-eq0) where
   abbrev p : ℕ
-  p = let i = c.args in (i.m % 2 ^ 31 + 2 ^ 31) * i.n
+  p = c.mantissa.result * c.args.n
 
   abbrev z : ℕ
   z = count_leading_zeros 64 p
@@ -35,16 +39,17 @@ module _ (c : Else-p-eq0) where
   small : m ≤ 2 ^ 32
   small = omega arith
 
-pub returns-then-before-lt257 : goal.returns-then-before-lt257
-returns-then-before-lt257 c =
+pub returns-then-before-le-BIAS : goal.returns-then-before-le-BIAS
+returns-then-before-le-BIAS c =
     let d = c in
-    c.close.ensures ∙ sym (at_some _ (p c.before.before) _ d.if-p-eq0.false (z c.before.before) refl ∙ ended_low _ _ 0 (e c.before.before) (omega arith))
+    c.close.ensures ∙ sym (at_some _ (p c.before.before) _ d.if-p-eq0.false (z c.before.before) refl ∙ ended_low _ _ 0 (e c.before.before) (omega arith)) ∙ whole c.before.before.before
 
 pub returns : goal.returns
 returns c =
     let d = c in
     c.close-2.ensures
     ∙ sym (at_some _ (p c.before.before) _ d.if-p-eq0.false (z c.before.before) refl ∙ ap (λ (k : ℕ). ended_product (d.args.sign / 2 ^ 31) k (e c.before.before)) (sym (rounded c.before.before)) ∙ ended_high _ (m c.before.before) (e c.before.before) (omega arith) (small c.before.before))
+    ∙ whole c.before.before.before
 
 pub returns-then-p-eq0 : goal.returns-then-p-eq0
-returns-then-p-eq0 c = c.zero.ensures ∙ sym (at_zero _ _ _ c.if-p-eq0.true)
+returns-then-p-eq0 c = sym (at_zero _ _ _ c.if-p-eq0.true) ∙ whole c.before
