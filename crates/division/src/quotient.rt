@@ -6,22 +6,23 @@ ghost use Rattle.division.specs.Rounds.{rounds33, digit34};
 ghost use Rattle.division.specs.Division.{restacked_quotient};
 
 use edition::Edition;
-use number::Number;
+use ending::BIAS;
+use number::{CARRY, Number, TOP_BIT};
 
 // The 33 digits of the mantissas' quotient, read as one binary number. A mantissa's top bit goes without saying. It is set here, which also spares
 // the question at run time whether a shorter division would do.
 fn digits(m: u32, n: u32) -> u64
     ensures { (result ≡ (rounds33 (m % 2 ^ 31 + 2 ^ 31) (n % 2 ^ 31 + 2 ^ 31)).digits) × (result < 2 ^ 33 - 1) }
 {
-    ((m % 2147483648) as u64 + 2147483648) * 4294967296 / ((n % 2147483648) as u64 + 2147483648)
+    number::mantissa(m) as u64 * CARRY / number::mantissa(n) as u64
 }
 
 // The 34th digit where it is tried after a doubling. What is left after 33 rounds is the same division's remainder.
 fn doubled_digit(m: u32, n: u32) -> u64
     ensures { (result ≡ digit34 Mended (n % 2 ^ 31 + 2 ^ 31) (rounds33 (m % 2 ^ 31 + 2 ^ 31) (n % 2 ^ 31 + 2 ^ 31))) × (result < 2) }
 {
-    let by = (n % 2147483648) as u64 + 2147483648;
-    let left = ((m % 2147483648) as u64 + 2147483648) * 4294967296 % by;
+    let by = number::mantissa(n) as u64;
+    let left = number::mantissa(m) as u64 * CARRY % by;
     if 2 * left < by {
         return 0;
     }
@@ -49,18 +50,18 @@ pub fn division(edition: Edition, s: u32, m: u32, e: u32, t: u32, n: u32, f: u32
         return None;
     }
     if first == 0 {
-        return Some(Number { b1: 0, word: 0 });
+        return Some(Number::ZERO);
     }
     let q = digits(m, n);
-    let sign = (s ^ t) / 2147483648;
+    let sign = (s ^ t) / TOP_BIT;
     // A quotient below 2^32 needs one doubling, which takes in digit 33 and lowers the exponent. Any other is rounded by it. Which it is, is as good
     // as random, so the shift goes by it and no branch does.
-    let whole = q / 4294967296;
+    let whole = q / CARRY;
     // The ending keeps an exponent as e + 256.
     ending::close(
         sign as u8,
         ((q + whole) >> whole) as u32,
-        first as u64 + 128 + 256 - second as u64 + whole,
+        first as u64 + 128 + BIAS - second as u64 + whole,
         next_digit(edition, m, n) >> whole,
     )
 }
