@@ -5,17 +5,25 @@ ghost use Rattle.edition.specs.declared.Edition.TheVariants.{Shipped};
 ghost use Rattle.number.specs.Number.{number, sign};
 ghost use Rattle.truncation.specs.Int.{int_of};
 
-use crate::cutting::{is_taken_65536, truncate};
-use number::Number;
+use crate::cutting::{OF_65536, OF_ONE, OF_WHOLE, is_taken_65536, truncate};
+use number::{CARRY, Number, TOP_BIT};
+
+// The short -1, as a word: FF FF FF 00.
+const SHORT_MINUS_ONE: u32 = 0xFFFF_FF00;
+
+// -1 as a full number.
+const MINUS_ONE: Number = Number {
+    b1: OF_ONE,
+    word: TOP_BIT,
+};
 
 fn below_one(word: u32) -> u32
     ensures { (e : ℕ) → 0 < e → e < 129 → int_of Shipped (number e word) ≡ Some (number 0 result) }
 {
-    if word < 2147483648 {
+    if word < TOP_BIT {
         return 0;
     }
-    // The short -1, FF FF FF 00.
-    4294967040
+    SHORT_MINUS_ONE
 }
 
 fn flipped(sign: u32, q: u16) -> u16
@@ -24,7 +32,7 @@ fn flipped(sign: u32, q: u16) -> u16
     if sign == 0 {
         return q;
     }
-    65535 - q
+    !q
 }
 
 // Of a number from 1 on whose whole part is short. A negative one goes down: one less than the mantissa has the whole part that is one less than what int is away from
@@ -33,9 +41,8 @@ fn short_floor(e: u8, word: u32) -> u32
     requires { (129 ≤ e) × (e < 145) }
     ensures { int_of Shipped (number e word) ≡ Some (number 0 result) }
 {
-    let sign = word / 2147483648;
-    let m = word % 2147483648 + 2147483648;
-    let q = (m - sign >> (160 - e)) as u16;
+    let sign = word / TOP_BIT;
+    let q = (number::mantissa(word) - sign >> (OF_WHOLE - e)) as u16;
     number::halves_word((255 * sign) as u8, flipped(sign, q))
 }
 
@@ -47,20 +54,17 @@ fn floor_of(x: Number) -> Number
     let e = x.b1;
     let word = x.word;
     // Odd, less 1, goes the full route, where it counts as zero.
-    if is_taken_65536(Number { b1: e, word }) {
-        return Number {
-            b1: 129,
-            word: 2147483648,
-        };
+    if is_taken_65536(x) {
+        return MINUS_ONE;
     }
-    let m = (word % 2147483648 + 2147483648) as u64;
-    let places = 160 - e;
+    let m = number::mantissa(word) as u64;
+    let places = OF_WHOLE - e;
     let cut = (m >> places) << places;
     if cut == m {
-        return Number { b1: e, word };
+        return x;
     }
     let more = cut + (1u64 << places);
-    if more < 4294967296 {
+    if more < CARRY {
         return Number {
             b1: e,
             word: number::full_word(1, more),
@@ -78,42 +82,31 @@ pub fn int(x: Number) -> Number
     let e = x.b1;
     let word = x.word;
     if e == 0 {
-        if word < 2147483648 {
-            return Number { b1: e, word };
+        if word < TOP_BIT {
+            return x;
         }
         if number::low_half(word) == 0 {
-            return Number {
-                b1: 129,
-                word: 2147483648,
-            };
+            return MINUS_ONE;
         }
-        return Number { b1: e, word };
+        return x;
     }
-    if e < 129 {
+    if e < OF_ONE {
         return Number {
             b1: 0,
             word: below_one(word),
         };
     }
-    if e < 145 {
+    if e < OF_65536 {
         return Number {
             b1: 0,
             word: short_floor(e, word),
         };
     }
-    if e < 160 {
-        if word < 2147483648 {
-            let t = truncate(Number { b1: e, word });
-            return Number {
-                b1: t.b1,
-                word: t.word,
-            };
+    if e < OF_WHOLE {
+        if word < TOP_BIT {
+            return truncate(x);
         }
-        let t = floor_of(Number { b1: e, word });
-        return Number {
-            b1: t.b1,
-            word: t.word,
-        };
+        return floor_of(x);
     }
-    Number { b1: e, word }
+    x
 }

@@ -11,8 +11,8 @@ by_word : (x : Number) → x.b1 ≡ 145 → (t : Bool) → eqb (x.word / 2 ^ 15)
 by_word x h true e = sym (taken x h (eqb-true _ _ e))
 by_word x h false e = sym (taken_not x Shipped (eqb-false _ _ e))
 
-pub returns-then-x-ne145 : goal.returns-then-x-ne145
-returns-then-x-ne145 c = sym (taken_not_145 _ Shipped (omega arith))
+pub returns-then-x-ne-OF_65536 : goal.returns-then-x-ne-OF_65536
+returns-then-x-ne-OF_65536 c = sym (taken_not_145 _ Shipped (omega arith))
 
 pub returns : goal.returns
 returns c = by_word _ (omega arith) _ refl

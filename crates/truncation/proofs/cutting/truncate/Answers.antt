@@ -2,7 +2,7 @@
 -- least sixteen places are shifted out, and clearing places makes no number larger.
 use Rattle.std.proofs.Common.{ap, arith, lt_of_le_of_lt, mod-eq_of_lt, sym, ℕ, ◌%◌, ◌*◌, ◌-◌, ◌/◌, ◌<◌, ◌^◌, ◌∙◌, ◌≡◌}
 use Rattle.edition.specs.declared.Edition.TheVariants.{Shipped}
-use Rattle.number.specs.Number.{number}
+use Rattle.number.specs.Number.{number, short_of}
 use Rattle.truncation.specs.Truncate.{cleared}
 use Rattle.truncation.specs.TruncateLaws.{taken_not_145, truncate_full, truncate_not_full, truncate_below_one, truncate_to_short, truncate_taken, truncate_cleared, truncate_whole}
 use Rattle.truncation.specs.BitLaws.{cleared_le, dropped_lt}
@@ -11,9 +11,11 @@ use Rattle.truncation.proofs.cutting.truncate.Goals as goal
 clearing_fits : (w k : ℕ) → w < 2 ^ 32 → (w / 2 ^ k * 2 ^ k) % 2 ^ 32 ≡ cleared k w
 clearing_fits w k h = mod-eq_of_lt (lt_of_le_of_lt (cleared_le w k) h)
 
-pub returns-then-e-lt145 : goal.returns-then-e-lt145
-returns-then-e-lt145 c =
-    ap (number 0) c.short_word.ensures ∙ sym (truncate_full Shipped _ (omega arith) ∙ truncate_to_short Shipped _ (omega arith) (omega arith))
+pub returns-then-e-lt-OF_65536 : goal.returns-then-e-lt-OF_65536
+returns-then-e-lt-OF_65536 c =
+    let x = c.args.x in
+    ap (number 0) (c.short_word.ensures ∙ ap (λ (m : ℕ). (short_of (x.word / 2 ^ 31) (m / 2 ^ (160 - x.b1))).word) c.mantissa.ensures)
+    ∙ sym (truncate_full Shipped _ (omega arith) ∙ truncate_to_short Shipped _ (omega arith) (omega arith))
 
 pub returns-then-is_taken_65536 : goal.returns-then-is_taken_65536
 returns-then-is_taken_65536 c =
@@ -29,11 +31,11 @@ returns c =
 pub returns-then-e-eq0 : goal.returns-then-e-eq0
 returns-then-e-eq0 c = sym (truncate_not_full Shipped _ (omega arith))
 
-pub returns-then-e-lt129 : goal.returns-then-e-lt129
-returns-then-e-lt129 c = sym (truncate_full Shipped _ (omega arith) ∙ truncate_below_one Shipped _ (omega arith))
+pub returns-then-e-lt-OF_ONE : goal.returns-then-e-lt-OF_ONE
+returns-then-e-lt-OF_ONE c = sym (truncate_full Shipped _ (omega arith) ∙ truncate_below_one Shipped _ (omega arith))
 
-pub returns-then-e-gt159 : goal.returns-then-e-gt159
-returns-then-e-gt159 c = sym (truncate_full Shipped _ (omega arith) ∙ truncate_whole Shipped _ (omega arith) (taken_not_145 _ Shipped (omega arith)) (omega arith))
+pub returns-then-e-ge-OF_WHOLE : goal.returns-then-e-ge-OF_WHOLE
+returns-then-e-ge-OF_WHOLE c = sym (truncate_full Shipped _ (omega arith) ∙ truncate_whole Shipped _ (omega arith) (taken_not_145 _ Shipped (omega arith)) (omega arith))
 
-pub overflow_cast-v-then-e-lt145 : goal.overflow_cast-v-then-e-lt145
-overflow_cast-v-then-e-lt145 c = record { fits = dropped_lt _ _ (omega arith) (omega arith) }
+pub overflow_cast-v-then-e-lt-OF_65536 : goal.overflow_cast-v-then-e-lt-OF_65536
+overflow_cast-v-then-e-lt-OF_65536 c = record { fits = dropped_lt _ _ (omega arith) (omega arith) }

@@ -8,8 +8,8 @@ use Rattle.truncation.specs.IntLaws.{int_positive}
 use Rattle.truncation.specs.FloorLaws.{int_small}
 use Rattle.truncation.proofs.whole.below_one.Goals as goal
 
-pub returns-then-word-lt2147483648 : goal.returns-then-word-lt2147483648
-returns-then-word-lt2147483648 c e p q = let x = number e c.args.word in int_positive Shipped x (omega arith) ∙ ap Some (truncate_full Shipped x p ∙ truncate_below_one Shipped x q)
+pub returns-then-word-lt-TOP_BIT : goal.returns-then-word-lt-TOP_BIT
+returns-then-word-lt-TOP_BIT c e p q = let x = number e c.args.word in int_positive Shipped x (omega arith) ∙ ap Some (truncate_full Shipped x p ∙ truncate_below_one Shipped x q)
 
 pub returns : goal.returns
 returns c e p q = int_small Shipped (number e c.args.word) (omega arith) (omega arith) p q

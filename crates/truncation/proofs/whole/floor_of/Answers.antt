@@ -10,7 +10,7 @@ use Rattle.truncation.specs.BitLaws.{cleared_le}
 use Rattle.truncation.specs.FloorLaws.{int_taken}
 use Rattle.truncation.specs.StepLaws.{int_same, int_up, int_up_carried}
 use Rattle.truncation.proofs.whole.floor_of.Goals as goal
-use Rattle.truncation.proofs.whole.floor_of.Goals.{Else-is_taken_65536}
+use Rattle.truncation.proofs.whole.floor_of.Goals.{After-mantissa-m}
 
 clearing : (m k : ℕ) → m < 2 ^ 32 → (m / 2 ^ k * 2 ^ k) % 2 ^ 64 ≡ cleared k m
 clearing m k h = mod-eq_of_lt (lt_of_le_of_lt (cleared_le m k) (omega arith))
@@ -18,20 +18,20 @@ clearing m k h = mod-eq_of_lt (lt_of_le_of_lt (cleared_le m k) (omega arith))
 bit : (k : ℕ) → k ≤ 31 → ((1 * 2 ^ k) % 2 ^ 64 ≡ 2 ^ k) × (2 ^ k ≤ 2 ^ 31)
 bit k h = (shl_exact {a = 1} 1 k 64 (omega arith) (omega arith) ∙ one-mul (2 ^ k), pow_mono {i = k} {j = 31} h)
 
-abbrev x : Else-is_taken_65536 → Number
+abbrev x : After-mantissa-m → Number
 x c = c.args.x
 
-abbrev places : Else-is_taken_65536 → ℕ
+abbrev places : After-mantissa-m → ℕ
 places c = 160 - (x c).b1
 
-other : (c : Else-is_taken_65536) → taken65536 Shipped (x c) ≡ false
+other : (c : After-mantissa-m) → taken65536 Shipped (x c) ≡ false
 other c = sym c.is_taken_65536.ensures ∙ c.if-is_taken_65536.false
 
-cut : (c : Else-is_taken_65536) → (mantissa (x c) / 2 ^ places c * 2 ^ places c) % 2 ^ 64 ≡ cleared (places c) (mantissa (x c))
-cut c = clearing (mantissa (x c)) (places c) (omega arith)
+cut : (c : After-mantissa-m) → (c.mantissa-m.result / 2 ^ places c * 2 ^ places c) % 2 ^ 64 ≡ cleared (places c) (mantissa (x c))
+cut c = ap (λ (m : ℕ). (m / 2 ^ places c * 2 ^ places c) % 2 ^ 64) c.mantissa-m.ensures ∙ clearing (mantissa (x c)) (places c) (omega arith)
 
-raised : (c : Else-is_taken_65536) → places c ≤ 31
-    → (mantissa (x c) / 2 ^ places c * 2 ^ places c) % 2 ^ 64 + (1 * 2 ^ places c) % 2 ^ 64 ≡ cleared (places c) (mantissa (x c)) + 2 ^ places c
+raised : (c : After-mantissa-m) → places c ≤ 31
+    → (c.mantissa-m.result / 2 ^ places c * 2 ^ places c) % 2 ^ 64 + (1 * 2 ^ places c) % 2 ^ 64 ≡ cleared (places c) (mantissa (x c)) + 2 ^ places c
 raised c h = ap₂ ◌+◌ (cut c) (bit (places c) h).0
 
 pub returns-then-is_taken_65536 : goal.returns-then-is_taken_65536
@@ -40,21 +40,21 @@ returns-then-is_taken_65536 c =
 
 pub returns-then-cut-m : goal.returns-then-cut-m
 returns-then-cut-m c =
-    let d = c in
-    int_same Shipped (x c.before) (omega arith) (omega arith) (omega arith) (omega arith) (other c.before) (sym (cut c.before) ∙ c.if-cut-m.true)
+    let d = c.before in
+    int_same Shipped (x d) (omega arith) (omega arith) (omega arith) (omega arith) (other d) (sym (cut d) ∙ c.if-cut-m.true ∙ c.mantissa-m.ensures)
 
-pub returns-then-more-lt4294967296 : goal.returns-then-more-lt4294967296
-returns-then-more-lt4294967296 c =
-    let d = c in
-    let r = raised c.before.before.before (omega arith) in
-    int_up Shipped (x c.before.before.before) (omega arith) (omega arith) (omega arith) (omega arith) (other c.before.before.before) (λ e. c.if-cut-m.false (cut c.before.before.before ∙ e)) (omega arith)
-    ∙ ap (λ (w : ℕ). Some (number (x c.before.before.before).b1 w)) (sym (c.full_word.ensures ∙ ap (λ (m : ℕ). (full_of 1 0 m).word) r))
+pub returns-then-more-lt-CARRY : goal.returns-then-more-lt-CARRY
+returns-then-more-lt-CARRY c =
+    let d = c.before.before.before in
+    let r = raised d (omega arith) in
+    int_up Shipped (x d) (omega arith) (omega arith) (omega arith) (omega arith) (other d) (λ e. c.if-cut-m.false (cut d ∙ e ∙ sym c.mantissa-m.ensures)) (omega arith)
+    ∙ ap (λ (w : ℕ). Some (number (x d).b1 w)) (sym (c.full_word.ensures ∙ ap (λ (m : ℕ). (full_of 1 0 m).word) r))
 
 pub returns : goal.returns
 returns c =
-    let d = c in
-    let r = raised c.before.before.before (omega arith) in
-    let less = cleared_le (mantissa (x c.before.before.before)) (places c.before.before.before) in
-    int_up_carried Shipped (x c.before.before.before) (omega arith) (omega arith) (omega arith) (omega arith) (other c.before.before.before) (λ e. c.if-cut-m.false (cut c.before.before.before ∙ e))
-    (omega arith) (omega (arith, (bit (places c.before.before.before) (omega arith)).1))
-    ∙ ap (λ (w : ℕ). Some (number ((x c.before.before.before).b1 + 1) w)) (sym (c.full_word-2.ensures ∙ ap (λ (m : ℕ). (full_of 1 0 (m / 2)).word) r))
+    let d = c.before.before.before in
+    let r = raised d (omega arith) in
+    let less = cleared_le (mantissa (x d)) (places d) in
+    int_up_carried Shipped (x d) (omega arith) (omega arith) (omega arith) (omega arith) (other d) (λ e. c.if-cut-m.false (cut d ∙ e ∙ sym c.mantissa-m.ensures))
+    (omega arith) (omega (arith, (bit (places d) (omega arith)).1))
+    ∙ ap (λ (w : ℕ). Some (number ((x d).b1 + 1) w)) (sym (c.full_word-2.ensures ∙ ap (λ (m : ℕ). (full_of 1 0 (m / 2)).word) r))

@@ -20,8 +20,8 @@ large x b h = go (eq-zero-or-pos (sign x))
         int_positive Shipped x z ∙ ap Some (truncate_full Shipped x (omega arith) ∙ truncate_whole Shipped x (omega arith) (taken_not_145 x Shipped (omega arith)) h)
     go (inr p) = int_large Shipped x b (omega (arith, b.word_below, p)) (omega arith) h
 
-pub returns-then-word-lt2147483648 : goal.returns-then-word-lt2147483648
-returns-then-word-lt2147483648 c = int_positive Shipped _ (omega arith) ∙ ap Some (truncate_not_full Shipped _ (omega arith))
+pub returns-then-word-lt-TOP_BIT : goal.returns-then-word-lt-TOP_BIT
+returns-then-word-lt-TOP_BIT c = int_positive Shipped _ (omega arith) ∙ ap Some (truncate_not_full Shipped _ (omega arith))
 
 pub returns-then-low_half-eq0 : goal.returns-then-low_half-eq0
 returns-then-low_half-eq0 c = int_odd Shipped _ (omega arith) (omega arith) (omega arith) (sym c.low_half.ensures ∙ c.if-low_half-eq0.true)
@@ -29,8 +29,8 @@ returns-then-low_half-eq0 c = int_odd Shipped _ (omega arith) (omega arith) (ome
 pub returns-then-e-eq0 : goal.returns-then-e-eq0
 returns-then-e-eq0 c = int_short Shipped _ (omega arith) (omega arith) (omega arith) (omega arith)
 
-pub returns-then-word-lt2147483648-2 : goal.returns-then-word-lt2147483648-2
-returns-then-word-lt2147483648-2 c = int_positive Shipped _ (omega arith) ∙ ap Some (sym c.truncate-t.ensures)
+pub returns-then-word-lt-TOP_BIT-2 : goal.returns-then-word-lt-TOP_BIT-2
+returns-then-word-lt-TOP_BIT-2 c = int_positive Shipped _ (omega arith) ∙ ap Some (sym c.truncate.ensures)
 
 pub returns : goal.returns
 returns c = large _ (omega arith) (omega arith)
