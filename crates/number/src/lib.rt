@@ -9,8 +9,8 @@ mod zeros;
 pub use form::{Form, form_of};
 pub use operand::{Magnitude, Operand, magnitude_of, operand_of, short_operand};
 pub use parts::{
-    CARRY, TOP_BIT, complement, full_word, halves_word, joined, low_half, mantissa, short_magnitude,
-    short_word, swapped,
+    CARRY, TOP_BIT, complement, full_word, halves_word, joined, low_half, mantissa,
+    short_magnitude, short_word, swapped,
 };
 pub use zeros::leading_zeros;
 

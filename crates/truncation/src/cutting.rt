@@ -7,7 +7,9 @@ use number::{Number, TOP_BIT};
 
 // Exponent bytes: of 1, of 65,536, and of the numbers whose mantissa has no digit below 1.
 pub(crate) const OF_ONE: u8 = 129;
+
 pub(crate) const OF_65536: u8 = 145;
+
 pub(crate) const OF_WHOLE: u8 = 160;
 
 // Odd, as a word: FF 00 00 00.

@@ -5,7 +5,13 @@ ghost use Rattle.std.specs.Prelude.{◌≡◌};
 ghost use Rattle.number.specs.Number.{number};
 ghost use Rattle.value.specs.Double.{double_of};
 
-use number::Number;
+use number::{Number, TOP_BIT};
+
+// What makes an exponent byte a double's exponent field: the double's bias, less the byte of a mantissa that counts by ones.
+const SCALE: u64 = 1023 - 160;
+
+// The lowest bit of a double's exponent field.
+const FIELD: u64 = 1 << 52;
 
 pub fn double(x: Number) -> f64
     ensures { result ≡ double_of x }
@@ -15,10 +21,9 @@ pub fn double(x: Number) -> f64
     if e == 0 {
         return whole(word);
     }
-    let m = word % 2147483648 + 2147483648;
-    // m times 2^(e - 160). The factor is a double of its own: a power of two, whose exponent field is e - 160 + 1023.
-    let v = (m as f64) * f64::from_bits((e as u64 + 863) * 4503599627370496);
-    if 2147483648 <= word {
+    // The mantissa times 2^(e - 160). The factor is a double of its own: a power of two, whose exponent field is e - 160 + 1023.
+    let v = (number::mantissa(word) as f64) * f64::from_bits((e as u64 + SCALE) * FIELD);
+    if TOP_BIT <= word {
         return -v;
     }
     v
@@ -29,8 +34,8 @@ fn whole(word: u32) -> f64
     ensures { result ≡ double_of (number 0 word) }
 {
     let v = number::short_magnitude(word) as i32;
-    if word < 2147483648 {
+    if word < TOP_BIT {
         return v as f64;
     }
-    (0 - v) as f64
+    (-v) as f64
 }

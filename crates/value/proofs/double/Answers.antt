@@ -81,15 +81,18 @@ neg_full m e =
 full : (x : Number) (s : ℕ) → sign x ≡ s → (x.b1 ≡ 0 → ⊥) → double_of_full (eqb s 1) (mantissa x) x.b1 ≡ double_of x
 full x s e h = sym (double_full x h ∙ ap (λ (t : ℕ). double_of_full (eqb t 1) (mantissa x) x.b1) e)
 
-pub returns-then-word-ge2147483648 : goal.returns-then-word-ge2147483648
+of_word : (b : Bool) (e : ℕ) {m n : ℕ} → m ≡ n → double_of_full b m e ≡ double_of_full b n e
+of_word b e h = ap (λ (m : ℕ). double_of_full b m e) h
+
+pub returns-then-word-ge-TOP_BIT : goal.returns-then-word-ge-TOP_BIT
 unfolding of_int
-returns-then-word-ge2147483648 c =
+returns-then-word-ge-TOP_BIT c =
     let n = c in
-    ap neg (product _ _ (omega arith) (omega arith)) ∙ neg_full _ _ ∙ full _ 1 (omega arith) n.if-e-eq0.false
+    ap neg (product _ _ (omega arith) (omega arith)) ∙ neg_full _ _ ∙ of_word true n.args.x.b1 n.mantissa.ensures ∙ full _ 1 (omega arith) n.if-e-eq0.false
 
 pub returns : goal.returns
 unfolding of_int
-returns c = let n = c in product _ _ (omega arith) (omega arith) ∙ full _ 0 (omega arith) n.if-e-eq0.false
+returns c = let n = c in product _ _ (omega arith) (omega arith) ∙ of_word false n.args.x.b1 n.mantissa.ensures ∙ full _ 0 (omega arith) n.if-e-eq0.false
 
 pub float_from_bits-v : goal.float_from_bits-v
 float_from_bits-v c = no_nan _ (omega arith)

@@ -17,8 +17,8 @@ fits : (v : ℕ) → v < 2 ^ 16 → SFits w32 (neg_ℤ (pos v))
 fits zero h = record { sfits = omega arith }
 fits (suc v) h = record { sfits = omega arith }
 
-pub returns-then-word-lt2147483648 : goal.returns-then-word-lt2147483648
-returns-then-word-lt2147483648 c =
+pub returns-then-word-lt-TOP_BIT : goal.returns-then-word-lt-TOP_BIT
+returns-then-word-lt-TOP_BIT c =
     let d = c in
     let plus : d.args.word / 2 ^ 31 ≡ 0 = omega arith in
     ap (of_int binary64) (to_z_pos w32 {n = d.short_magnitude-v.result} (omega arith))
