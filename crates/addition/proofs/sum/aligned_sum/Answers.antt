@@ -1,5 +1,6 @@
 -- `aligned_sum` meets its contract: the larger comes first by a choice (`larger_chosen`).
 use Rattle.std.proofs.Common.{Bool, SFits, ap, ap₂, arith, cond, false, ltb, nat_abs, of_z, pos, sym, to_z, to_z-of_z, true, w64, ℕ, ℤ, ◌%◌, ◌*◌, ◌+ℤ◌, ◌+◌, ◌-◌, ◌<◌, ◌^◌, ◌∙◌, ◌≡◌}
+use Rattle.std.proofs.Math.Nat.{max_comm}
 use lib.Signed.{rem_z}
 use Rattle.addition.specs.Addition.{aligned, ended_sum}
 use Rattle.addition.specs.SignedLaws.{low_bits_lt, held}
@@ -59,5 +60,5 @@ returns c =
     let n = d.max-most.result in
     c.summed.ensures
     ∙ ap₂ (λ (j k : ℤ). ended_sum (j +ℤ aligned (2 * n - (e + f)) k) n) (large c.before.before) (small c.before)
-    ∙ ap (λ (m : ℕ). ended_sum (cond (late c.before.before.before.before.before.before) (cut i.args.y) (cut i.args.x) +ℤ aligned (2 * m - (e + f)) (cond (late c.before.before.before.before.before.before) (cut i.args.x) (cut i.args.y))) m) d.max-most.ensures
+    ∙ ap (λ (m : ℕ). ended_sum (cond (late c.before.before.before.before.before.before) (cut i.args.y) (cut i.args.x) +ℤ aligned (2 * m - (e + f)) (cond (late c.before.before.before.before.before.before) (cut i.args.x) (cut i.args.y))) m) (d.max-most.ensures ∙ max_comm f e)
     ∙ sym (larger_chosen (cut i.args.x) (cut i.args.y) e f)
