@@ -1,6 +1,5 @@
 -- `short_product` meets its contract: each way out is a law of the product of two short numbers.
 use Rattle.std.proofs.Common.{ap, ap₂, arith, bit_xor, false, mul-le-mul, refl, sym, ℕ, ◌%◌, ◌*◌, ◌+◌, ◌-◌, ◌/◌, ◌<◌, ◌^◌, ◌||◌, ◌∙◌, ◌≡◌, ◌≤◌}
-use Rattle.std.proofs.lemmas.Option.{MatchOption-at_some}
 use lib.Count.{count_leading_zeros}
 use Rattle.number.specs.Number.{number, malformed, low, full_of, short_of}
 use Rattle.number.specs.LeadingZeros.{zeros_are, zeros_below}
@@ -22,7 +21,7 @@ module _ (e : In_ok-y) where
 
   fits : m ≤ 65535 * 65535
   fits = mul-le-mul {n₂ = 65535} {m₂ = 65535}
-      (omega (arith, MatchOption-at_some _ _ _ e.in_ok-x.was e.magnitude_of.ensures.1)) (omega (arith, MatchOption-at_some _ _ _ e.in_ok-y.was e.magnitude_of-2.ensures.1))
+      (omega (arith, e.in_ok-x.ensures.1)) (omega (arith, e.in_ok-y.ensures.1))
 
   record Known (w v : ℕ) : Type 0 where
     formed : malformed (number 0 w) || malformed (number 0 v) ≡ false
@@ -31,8 +30,8 @@ module _ (e : In_ok-y) where
 
   known : (w v : ℕ) → (let a = e.args in w / 2 ^ 24 ≡ a.b % 256 → low (number 0 w) ≡ a.h → v / 2 ^ 24 ≡ a.c % 256 → low (number 0 v) ≡ a.k → Known w v)
   known w v i j k l =
-      let x = MatchOption-at_some _ _ _ e.in_ok-x.was (e.magnitude_of.ensures.0 w i j) in
-      let y = MatchOption-at_some _ _ _ e.in_ok-y.was (e.magnitude_of-2.ensures.0 v k l) in
+      let x = e.in_ok-x.ensures.0 w i j in
+      let y = e.in_ok-y.ensures.0 v k l in
       record {
         formed = simp (x.form, y.form);
         product = ap₂ (λ (a b : ℕ). a * b) x.away y.away;
@@ -57,8 +56,8 @@ returns-then-v-lt65536 c w v i j k l =
     let n = known (goal.at.returns-then-v-lt65536 c).In_ok-y w v i j k l in (
       n.formed,
       product_some _ _ refl refl (λ z. c.if-v-eq0.false (n.product ∙ z)) (omega (arith, n.product, c.if-v-lt65536.true))
-      ∙ ap₂ (λ (a b : ℕ). Done (number 0 (short_of a b).word)) (sym n.signs) (sym n.product)
-      ∙ ap (λ (a : ℕ). Done (number 0 a)) (sym c.short_word.ensures),
+          ∙ ap₂ (λ (a b : ℕ). Done (number 0 (short_of a b).word)) (sym n.signs) (sym n.product)
+          ∙ ap (λ (a : ℕ). Done (number 0 a)) (sym c.short_word.ensures),
     )
 
 pub returns : goal.returns
@@ -70,9 +69,9 @@ returns c w v i j k l =
     let word : m e * 2 ^ z % 2 ^ 32 % 2 ^ 31 + 2 ^ 31 * (s e % 2) ≡ m e * 2 ^ z % 2 ^ 31 + 2 ^ 31 * (s e % 2) = omega arith in (
       n.formed,
       product_exact _ _ refl refl (omega arith) (omega arith) (omega (arith, n.product, c.if-v-lt65536.false))
-      ∙ ap₂ (λ (a b : ℕ). Done (full_of_short a b)) (sym n.signs) (sym n.product)
-      ∙ ap (λ (k : ℕ). Done (full_of (s e) (160 - k) (m e * 2 ^ k))) (sym (counted c.before).0)
-      ∙ ap (λ (a : ℕ). Done (number (160 - z) a)) (sym (c.full_word.ensures ∙ word)),
+          ∙ ap₂ (λ (a b : ℕ). Done (full_of_short a b)) (sym n.signs) (sym n.product)
+          ∙ ap (λ (k : ℕ). Done (full_of (s e) (160 - k) (m e * 2 ^ k))) (sym (counted c.before).0)
+          ∙ ap (λ (a : ℕ). Done (number (160 - z) a)) (sym (c.full_word.ensures ∙ word)),
     )
 
 pub overflow_sub-result : goal.overflow_sub-result

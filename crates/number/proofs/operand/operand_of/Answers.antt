@@ -1,31 +1,25 @@
 -- `operand_of` meets its contract: each way out is a law of what the number stands for.
-use Rattle.std.proofs.Common.{ap, arith, refl, sym, ℕ, ◌%◌, ◌*◌, ◌-◌, ◌/◌, ◌<◌, ◌^◌, ◌∙◌, ◌≡◌}
-use Rattle.std.proofs.lemmas.Option.{MatchOption-at_some}
+use Rattle.std.proofs.Common.{ap, arith, refl, sym, ℕ, ◌%◌, ◌*◌, ◌-◌, ◌<◌, ◌^◌, ◌∙◌, ◌≡◌}
 use lib.Count.{count_leading_zeros}
-use Rattle.number.specs.Number.{number, low, full_of}
-use Rattle.number.specs.Operand.{Measured}
+use Rattle.number.specs.Number.{number, full_of}
 use Rattle.number.specs.LeadingZeros.{zeros_are, zeros_below}
 use Rattle.number.proofs.RestackLaws.{restack_zero}
 use Rattle.number.proofs.OperandLaws.{short_stands}
 use Rattle.number.proofs.operand.operand_of.Goals as goal
-use Rattle.number.proofs.operand.operand_of.Goals.{After-leading_zeros-places, In_ok-short}
+use Rattle.number.proofs.operand.operand_of.Goals.{After-leading_zeros-places}
 
 -- what is known of the number of zeros
 counted : (c : After-leading_zeros-places) → (let v = c.in_ok-short.short.v in (c.leading_zeros-places.result ≡ count_leading_zeros 32 v) × (c.leading_zeros-places.result < 32))
 counted c = (zeros_are _ _ (omega arith) c.leading_zeros-places.ensures, zeros_below _ _ (omega arith) c.leading_zeros-places.ensures c.if-short-eq0.false)
 
--- what the magnitude is of
-measured : (c : In_ok-short) (w : ℕ) → w / 2 ^ 24 ≡ c.args.byte % 256 → low (number 0 w) ≡ c.args.half → Measured (number 0 w) c.in_ok-short.short
-measured c w i j = MatchOption-at_some _ _ _ c.in_ok-short.was (c.magnitude_of.ensures.0 w i j)
-
 pub returns-then-short-eq0 : goal.returns-then-short-eq0
 returns-then-short-eq0 c w i j =
-    let m = measured (goal.at.returns-then-short-eq0 c).In_ok-short w i j in
+    let m = c.in_ok-short.ensures.0 w i j in
     record { form = m.form; stands = sym (restack_zero (number 0 w) refl (sym m.away ∙ c.if-short-eq0.true)); byte = omega arith; none = λ e. refl }
 
 pub returns : goal.returns
 returns c w i j =
-    let m = measured (goal.at.returns c).In_ok-short w i j in
+    let m = c.in_ok-short.ensures.0 w i j in
     let v = c.in_ok-short.short.v in
     let z = c.leading_zeros-places.result in
     record {
