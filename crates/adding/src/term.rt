@@ -31,10 +31,7 @@ pub(crate) fn term(stack: &[u8], depth: usize, above: u8, flip: u32) -> Option<S
     if b1 != 0 {
         let word = places::word_at(stack, depth, above);
         return Some(Summand {
-            x: signed(
-                std::num::wrapping_add_u32(word, flip),
-                word % 2147483648 + 2147483648,
-            ),
+            x: signed(word.wrapping_add(flip), word % 2147483648 + 2147483648),
             e: b1 as u32,
         });
     }
@@ -43,10 +40,7 @@ pub(crate) fn term(stack: &[u8], depth: usize, above: u8, flip: u32) -> Option<S
         return Some(Summand { x: 0, e: 1 });
     }
     Some(Summand {
-        x: signed(
-            std::num::wrapping_add_u32(o.sign, flip),
-            o.m % 2147483648 + 2147483648,
-        ),
+        x: signed(o.sign.wrapping_add(flip), o.m % 2147483648 + 2147483648),
         e: o.e,
     })
 }

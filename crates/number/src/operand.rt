@@ -27,13 +27,13 @@ pub fn magnitude_of(byte: u32, half: u16) -> Option<Magnitude>
     ensures { ((w : ℕ) → w / 2 ^ 24 ≡ byte % 256 → low (number 0 w) ≡ half → Measures (number 0 w) result) × IfSome result (λ m. m.v < 2 ^ 16) }
 {
     let b2 = byte % 256;
-    if std::num::wrapping_sub_u32(b2, 1) < 254 {
+    if b2.wrapping_sub(1) < 254 {
         return None;
     }
     let mask = b2 * 16843009;
     Some(Magnitude {
         mask,
-        v: std::num::wrapping_sub_u32(half as u32 ^ mask, mask) % 65536,
+        v: (half as u32 ^ mask).wrapping_sub(mask) % 65536,
     })
 }
 

@@ -26,13 +26,13 @@ unfolding Told
 told c n u e g h = (sym (sym (ap (term_of (flips c.args.flip)) e) ∙ g), h)
 
 -- one that does not count as zero, by the parts of its re-stacked form
-some : (c : After-b1_at-b1) (n : Number) (s v g e : ℕ) (r : ℤ) → (let a = c.args in
+some : (c : After-b1_at-b1) (n : Number) (s v e : ℕ) (r : ℤ) → (let a = c.args in
     n ≡ number_at a.stack.now a.depth a.above → Bytes n → malformed n ≡ false → number e (v % 2 ^ 31 + 2 ^ 31 * (s / 2 ^ 31 % 2)) ≡ restacked n
-    → (e ≡ 0 → ⊥) → e < 256 → g ≡ (s + a.flip) % 2 ^ 32 → r ≡ signed (g / 2 ^ 31) (v % 2 ^ 31 + 2 ^ 31) → Told c (term (to_z w64 (of_z w64 r)) e))
-some c n s v g e r at b m p q l i j =
+    → (e ≡ 0 → ⊥) → e < 256 → r ≡ signed ((s + a.flip) % 2 ^ 32 / 2 ^ 31) (v % 2 ^ 31 + 2 ^ 31) → Told c (term (to_z w64 (of_z w64 r)) e))
+some c n s v e r at b m p q l j =
     let f = c.args.flip in
     let first = ap (λ (y : Number). y.b1) (sym p) in
-    let x = held r _ (j ∙ ap (λ (h : ℕ). signed (h / 2 ^ 31) (v % 2 ^ 31 + 2 ^ 31)) i) (rw (nat_abs_signed ((s + f) % 2 ^ 32 / 2 ^ 31) (v % 2 ^ 31 + 2 ^ 31)) (omega arith)) in
+    let x = held r _ j (rw (nat_abs_signed ((s + f) % 2 ^ 32 / 2 ^ 31) (v % 2 ^ 31 + 2 ^ 31)) (omega arith)) in
     told c n _ at
     (term_some f n b c.requires m s v (λ z. q (sym first ∙ z)) (ap (λ (y : Number). y.word) (sym p)) ∙ ap₂ (λ (i : ℤ) (k : ℕ). Some (term i k)) (sym x) first) l
 
@@ -43,14 +43,12 @@ short_at c = let d = c in ap₂ number (sym c.if-b1-ne0.false ∙ d.b1_at-b1.ens
 pub returns-then-b1-ne0 : goal.returns-then-b1-ne0
 unfolding Told
 returns-then-b1-ne0 c =
-    let g = c in
-    let w = g.word_at-word.result in
-    let d = c in
-    let n = number d.b1_at-b1.result w in
-    let full = g.if-b1-ne0.true in
+    let w = c.word_at-word.result in
+    let n = number c.b1_at-b1.result w in
+    let full = c.if-b1-ne0.true in
     let same : w % 2 ^ 31 + 2 ^ 31 * (w / 2 ^ 31 % 2) ≡ w = omega arith in
-    some (goal.at.returns-then-b1-ne0 c).After-b1_at-b1 n w w _ _ _ (ap₂ number d.b1_at-b1.ensures g.word_at-word.ensures) (omega arith) (malformed_full n full) (ap (number _) same ∙ sym (restack_full n full)) full (omega arith)
-    g.wrapping_add_u32.ensures.value c.signed.ensures
+    some (goal.at.returns-then-b1-ne0 c).After-b1_at-b1 n w w _ _ (ap₂ number c.b1_at-b1.ensures c.word_at-word.ensures) (omega arith) (malformed_full n full) (ap (number _) same ∙ sym (restack_full n full)) full (omega arith)
+    c.signed.ensures
 
 pub returns-in_err-o : goal.returns-in_err-o
 returns-in_err-o c =
@@ -69,4 +67,4 @@ pub returns : goal.returns
 unfolding Told
 returns c =
     let u = c.in_ok-o.ensures in
-    some (goal.at.returns c).After-b1_at-b1 _ _ _ _ _ _ (short_at (goal.at.returns c).After-word_at) (omega arith) u.form u.stands c.if-o-eq0.false u.byte c.wrapping_add_u32-2.ensures.value c.signed-2.ensures
+    some (goal.at.returns c).After-b1_at-b1 _ _ _ _ _ (short_at (goal.at.returns c).After-word_at) (omega arith) u.form u.stands c.if-o-eq0.false u.byte c.signed-2.ensures
