@@ -1,5 +1,5 @@
 -- A number as the full route of a sum takes it: a term. No public contract cites this file.
-use Rattle.std.specs.Prelude.{◌≡◌, ℕ, ◌+◌, ◌*◌, ◌/◌, ◌%◌, ◌^◌, ◌<◌, max, Bool, true, false, cond, ◌⊎◌, ℤ, pos, ◌==◌, ◌≢◌, int_rem, unsigned_abs}
+use Rattle.std.specs.Prelude.{◌≡◌, ℕ, ◌+◌, ◌*◌, ◌/◌, ◌%◌, ◌^◌, ◌<◌, max, Bool, true, false, cond, ◌⊎◌, ℤ, pos, ◌==◌, ◌≢◌, int_rem, unsigned_abs, Option, Some, None, is_none}
 use Rattle.std.proofs.Math.Path.{refl}
 use Rattle.std.proofs.Common.{sym, ◌∙◌, ap, ap₂, inl, inr, eq-zero-or-pos, mod-eq_of_lt, arith, eq-eqb, ne_eqb, of_z, to_z}
 use Rattle.std.specs.Int.{w64}
@@ -19,30 +19,31 @@ use Rattle.addition.proofs.MantissaLaws.{zero_at_1}
 use Rattle.adding.specs.declared.term.Summand.{Summand}
 use Rattle.adding.specs.Sum.{flips}
 
-abbrev pub term : Bool → ℤ → ℕ → Summand
-term f x e = record { malformed = f; x = x; e = e }
+abbrev pub term : ℤ → ℕ → Summand
+term x e = record { x = x; e = e }
 
 -- a zero's exponent byte is 1 here
 abbrev pub parts_of : Number → Summand
-parts_of n = term false (signed_mantissa n) (max 1 n.b1)
+parts_of n = term (signed_mantissa n) (max 1 n.b1)
 
-unfoldable pub term_of : Bool → Number → Summand
-term_of less y = cond (malformed y) (term true (pos 0) 1) (parts_of (restacked (second_of less y)))
+-- a malformed number has none
+unfoldable pub term_of : Bool → Number → Option Summand
+term_of less y = cond (malformed y) None (Some (parts_of (restacked (second_of less y))))
 
 module _ (less : Bool) (y : Number) where
-  pub term_malformed : malformed y ≡ true → term_of less y ≡ term true (pos 0) 1
+  pub term_malformed : malformed y ≡ true → term_of less y ≡ None
   unfolding term_of
   term_malformed h = simp h
 
-  pub term_formed : malformed y ≡ false → term_of less y ≡ parts_of (restacked (second_of less y))
+  pub term_formed : malformed y ≡ false → term_of less y ≡ Some (parts_of (restacked (second_of less y)))
   unfolding term_of
   term_formed h = simp h
 
-  pub term_form : (term_of less y).malformed ≡ malformed y
+  pub term_form : is_none (term_of less y) ≡ malformed y
   unfolding term_of
   term_form = go (malformed y)
     where
-      go : (b : Bool) → (cond b (term true (pos 0) 1) (parts_of (restacked (second_of less y)))).malformed ≡ b
+      go : (b : Bool) → is_none (cond b None (Some (parts_of (restacked (second_of less y))))) ≡ b
       go true = refl
       go false = refl
 
@@ -97,20 +98,20 @@ module _ (f : ℕ) (y : Number) (b : Bytes y) (k : (f ≡ 0) ⊎ (f ≡ 2 ^ 31))
   -- ---- the ways to a term
 
   module _ (m : malformed y ≡ false) where
-    pub term_none : restacked y ≡ zeros → term_of (flips f) y ≡ term false (pos 0) 1
-    term_none h = term_formed (flips f) y m ∙ ap parts_of (second_none h)
+    pub term_none : restacked y ≡ zeros → term_of (flips f) y ≡ Some (term (pos 0) 1)
+    term_none h = term_formed (flips f) y m ∙ ap (λ (n : Number). Some (parts_of n)) (second_none h)
 
     pub term_some : (s v : ℕ) → ((restacked y).b1 ≢ 0) → (restacked y).word ≡ v % 2 ^ 31 + 2 ^ 31 * (s / 2 ^ 31 % 2)
-        → term_of (flips f) y ≡ term false (signed ((s + f) % 2 ^ 32 / 2 ^ 31) (v % 2 ^ 31 + 2 ^ 31)) (restacked y).b1
+        → term_of (flips f) y ≡ Some (term (signed ((s + f) % 2 ^ 32 / 2 ^ 31) (v % 2 ^ 31 + 2 ^ 31)) (restacked y).b1)
     term_some s v h e =
         let n = flipped f (restacked y) in
         let c = ap (λ (w : ℕ). (w + f) % 2 ^ 32) e in
         let d = bits k (v % 2 ^ 31) (s / 2 ^ 31 % 2) (omega arith) (omega arith) in
         let one : max 1 n.b1 ≡ n.b1 = omega (arith, h) in
         term_formed (flips f) y m
-        ∙ ap parts_of (second_some h)
-        ∙ simp (ne_eqb n.b1 0 h) (ap (λ (i : ℕ). term false (signed (sign n) (mantissa n)) i) one)
-        ∙ ap₂ (λ (i j : ℕ). term false (signed i j) n.b1) (ap (λ (w : ℕ). w / 2 ^ 31) c ∙ d.0 ∙ sym (top k s)) (ap (λ (w : ℕ). w % 2 ^ 31 + 2 ^ 31) c ∙ ap (λ (a : ℕ). a + 2 ^ 31) d.1)
+        ∙ ap (λ (k : Number). Some (parts_of k)) (second_some h)
+        ∙ simp (ne_eqb n.b1 0 h) (ap (λ (i : ℕ). Some (term (signed (sign n) (mantissa n)) i)) one)
+        ∙ ap₂ (λ (i j : ℕ). Some (term (signed i j) n.b1)) (ap (λ (w : ℕ). w / 2 ^ 31) c ∙ d.0 ∙ sym (top k s)) (ap (λ (w : ℕ). w % 2 ^ 31 + 2 ^ 31) c ∙ ap (λ (a : ℕ). a + 2 ^ 31) d.1)
 
 -- ---- the sum of two terms is the full route's
 

@@ -13,22 +13,25 @@ use literals::table;
 use number::Number;
 use operands::store;
 
+// How many numbers a sum takes and leaves. A difference takes and leaves as many.
+const TAKEN: usize = table::ADD_TAKES;
+
+const LEFT: usize = table::ADD_LEAVES;
+
+const _: () = prove!(table::SUBTRACT_TAKES == TAKEN);
+
+const _: () = prove!(table::SUBTRACT_LEAVES == LEFT);
+
 pub fn add(stack: &mut [u8], depth: &mut usize) -> u8
     ensures { operate_of Shipped stack.old depth.old 15 ≡ (outcome result depth.new, stack.new) }
 {
-    sum(stack, depth, 0, table::ADD_TAKES, table::ADD_LEAVES)
+    sum(stack, depth, 0)
 }
 
 pub fn subtract(stack: &mut [u8], depth: &mut usize) -> u8
     ensures { operate_of Shipped stack.old depth.old 3 ≡ (outcome result depth.new, stack.new) }
 {
-    sum(
-        stack,
-        depth,
-        2147483648,
-        table::SUBTRACT_TAKES,
-        table::SUBTRACT_LEAVES,
-    )
+    sum(stack, depth, 2147483648)
 }
 
 // What the short route answers. A number that is full leaves it to the full route.
@@ -51,50 +54,41 @@ fn short_route(stack: &[u8], depth: usize, flip: u32) -> Short
 }
 
 // What is added to the second number's word flips its sign, for a difference, or is 0.
-fn sum(stack: &mut [u8], depth: &mut usize, flip: u32, taken: usize, left: usize) -> u8
-    requires { ((flip ≡ 0) ⊎ (flip ≡ 2 ^ 31)) × (taken ≡ 2) × (left ≡ 1) }
+fn sum(stack: &mut [u8], depth: &mut usize, flip: u32) -> u8
+    requires { (flip ≡ 0) ⊎ (flip ≡ 2 ^ 31) }
     ensures { operate_of Shipped stack.old depth.old (literal_of (flips flip)) ≡ (outcome result depth.new, stack.new) }
 {
     let old = *depth;
-    if slots::lacks_at(stack, depth, taken) {
-        return slots::refusal(stack, old, taken);
+    if slots::lacks_at(stack, depth, TAKEN) {
+        return slots::refusal(stack, old, TAKEN);
     }
     let short = short_route(stack, old, flip);
     match short {
         Short::Malformed => 3,
         Short::Stored(byte, low) => {
             places::put_halves_at(stack, old, 1, byte, low);
-            *depth = *depth - taken + left;
+            *depth = *depth - TAKEN + LEFT;
             0
         }
         Short::Exact(word) => {
             let answer = Some(Number { b1: 145, word });
-            store(stack, depth, old, answer, taken, left)
+            store(stack, depth, old, answer, TAKEN, LEFT)
         }
-        Short::Beyond => full_route(stack, depth, old, flip, taken, left),
+        Short::Beyond => full_route(stack, depth, old, flip),
     }
 }
 
-fn full_route(
-    stack: &mut [u8],
-    depth: &mut usize,
-    old: usize,
-    flip: u32,
-    taken: usize,
-    left: usize,
-) -> u8
-    requires { ((flip ≡ 0) ⊎ (flip ≡ 2 ^ 31)) × (taken ≡ 2) × (left ≡ 1) × (depth.old ≡ old) × (lacking stack.old old 2 ≡ false)
+fn full_route(stack: &mut [u8], depth: &mut usize, old: usize, flip: u32) -> u8
+    requires { ((flip ≡ 0) ⊎ (flip ≡ 2 ^ 31)) × (depth.old ≡ old) × (lacking stack.old old 2 ≡ false)
         × Says (flips flip) (number_at stack.old old 1) (number_at stack.old old 0) Beyond }
     ensures { operate_of Shipped stack.old depth.old (literal_of (flips flip)) ≡ (outcome result depth.new, stack.new) }
 {
-    let b = term(stack, old, 0, flip);
-    if b.malformed {
+    let Some(b) = term(stack, old, 0, flip) else {
         return 3;
-    }
-    let a = term(stack, old, 1, 0);
-    if a.malformed {
+    };
+    let Some(a) = term(stack, old, 1, 0) else {
         return 3;
-    }
+    };
     let answer = addition::aligned_sum(a.x, a.e, b.x, b.e);
-    store(stack, depth, old, answer, taken, left)
+    store(stack, depth, old, answer, TAKEN, LEFT)
 }

@@ -1,5 +1,5 @@
 // A number as the full route of a sum takes it, read from its slot: its mantissa with its sign, re-stacked, and its exponent byte.
-ghost use Rattle.std.specs.Prelude.{◌≡◌, ◌/◌, ◌^◌, ◌<◌, ◌⊎◌};
+ghost use Rattle.std.specs.Prelude.{◌≡◌, ◌/◌, ◌^◌, ◌<◌, ◌⊎◌, IfSome};
 ghost use Rattle.number.specs.Value.{signed as signed_of};
 ghost use Rattle.slots.specs.Reach.{number_at};
 ghost use Rattle.adding.specs.Sum.{flips};
@@ -8,7 +8,6 @@ ghost use Rattle.adding.specs.Term.{term_of};
 // A zero has the exponent byte 1, which moves nothing: the compiler then knows that none is 0.
 #[derive(Clone, Copy)]
 pub(crate) struct Summand {
-    pub malformed: bool,
     pub x: i64,
     pub e: u32,
 }
@@ -23,44 +22,25 @@ fn signed(word: u32, m: u32) -> i64
     0 - m as i64
 }
 
-// What is added to a word flips its sign, or leaves it.
-pub(crate) fn term(stack: &[u8], depth: usize, above: u8, flip: u32) -> Summand
+// What is added to a word flips its sign, or leaves it. A malformed number has no term.
+pub(crate) fn term(stack: &[u8], depth: usize, above: u8, flip: u32) -> Option<Summand>
     requires { (flip ≡ 0) ⊎ (flip ≡ 2 ^ 31) }
-    ensures { (result ≡ term_of (flips flip) (number_at stack.now depth above)) × (result.e < 256) }
+    ensures { (result ≡ term_of (flips flip) (number_at stack.now depth above)) × IfSome result (λ u. u.e < 256) }
 {
     let b1 = places::b1_at(stack, depth, above);
     if b1 != 0 {
         let word = places::word_at(stack, depth, above);
-        return Summand {
-            malformed: false,
-            x: signed(
-                std::num::wrapping_add_u32(word, flip),
-                word % 2147483648 + 2147483648,
-            ),
+        return Some(Summand {
+            x: signed(word.wrapping_add(flip), word % 2147483648 + 2147483648),
             e: b1 as u32,
-        };
+        });
     }
-    let o = number::short_operand(places::word_at(stack, depth, above));
-    if o.malformed {
-        return Summand {
-            malformed: true,
-            x: 0,
-            e: 1,
-        };
-    }
+    let o = number::short_operand(places::word_at(stack, depth, above))?;
     if o.e == 0 {
-        return Summand {
-            malformed: false,
-            x: 0,
-            e: 1,
-        };
+        return Some(Summand { x: 0, e: 1 });
     }
-    Summand {
-        malformed: false,
-        x: signed(
-            std::num::wrapping_add_u32(o.sign, flip),
-            o.m % 2147483648 + 2147483648,
-        ),
+    Some(Summand {
+        x: signed(o.sign.wrapping_add(flip), o.m % 2147483648 + 2147483648),
         e: o.e,
-    }
+    })
 }

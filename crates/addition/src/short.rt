@@ -6,6 +6,7 @@ ghost use Rattle.addition.specs.SignBytes.{Says, seventeen_of};
 
 #[derive(Clone, Copy)]
 pub enum Short {
+    // A variant and not the None of an Option: one match tells the refusal and the three ways of a sum apart.
     Malformed,
     // The sum's sign byte and low half.
     Stored(u8, u16),

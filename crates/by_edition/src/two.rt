@@ -54,14 +54,12 @@ pub fn divide(edition: Edition, stack: &mut [u8], depth: &mut usize) -> u8
     if slots::lacks(stack, old, table::DIVIDE_TAKES) {
         return slots::refusal(stack, old, table::DIVIDE_TAKES);
     }
-    let a = operands::operand(stack, old, 1);
-    if a.malformed {
+    let Some(a) = operands::operand(stack, old, 1) else {
         return 3;
-    }
-    let b = operands::operand(stack, old, 0);
-    if b.malformed {
+    };
+    let Some(b) = operands::operand(stack, old, 0) else {
         return 3;
-    }
+    };
     let answer = division::division(edition, a.sign, a.m, a.e, b.sign, b.m, b.e);
     match answer {
         Some(n) => {

@@ -1,5 +1,5 @@
 -- The product of two short numbers is exact: nothing is rounded, and the full route makes of them the full number of its value.
-use Rattle.std.specs.Prelude.{◌≡◌, Bool, true, false, ◌||◌, ℕ, ◌+◌, ◌*◌, ◌-◌, ◌^◌, ◌/◌, ◌%◌, ◌≤◌, ◌<◌, Some}
+use Rattle.std.specs.Prelude.{◌≡◌, true, false, ◌||◌, ℕ, ◌+◌, ◌*◌, ◌-◌, ◌^◌, ◌/◌, ◌%◌, ◌≤◌, ◌<◌, Option, MatchOption}
 use Rattle.std.proofs.Common.{sym, ◌∙◌, ap, ap₂, mul_right_comm, mul-le-mul, mul_assoc, zero-mul, mul-zero, arith, eq-eqb, ne_eqb, pow-add}
 use Rattle.std.specs.Int.Count.{count_leading_zeros}
 use Rattle.number.specs.declared.Number.{Number}
@@ -11,21 +11,13 @@ use Rattle.number.proofs.RestackLaws.{restack_some}
 use Rattle.number.proofs.RestackValueLaws.{full_of_short_lem}
 use Rattle.ending.specs.Ending.{loose, closed}
 use Rattle.ending.proofs.EndingLaws.{closed_stored}
-use Rattle.multiplication.specs.declared.product.Product.{Product}
 use Rattle.multiplication.specs.Multiplication.{short_product, sign_of_two, restacked_product, product_of, ended_product}
 use Rattle.multiplication.specs.Places.{rounded_at, product_at, at_some, at_scaled, fills, at_short}
 use Rattle.multiplication.specs.MultiplicationLaws.{product_short, product_beyond, ended_high}
 
--- what the code answers of two numbers whose b1 is 0
-pub record Multiplied (x y : Number) (r : Product) : Type 0 where
-  pub form : r.malformed ≡ malformed x || malformed y
-  pub is : malformed x || malformed y ≡ false → product_of x y ≡ Some (number r.b1 r.word)
-
-abbrev pub product : Bool → ℕ → ℕ → Product
-product m b w = record { malformed = m; b1 = b; word = w }
-
-pub multiplied_malformed : (x y : Number) → malformed x || malformed y ≡ true → Multiplied x y (product true 0 0)
-multiplied_malformed x y h = record { form = sym h; is = λ f. absurd (let z : ◌≡◌ {A = ℕ} 0 1 = cc (h, f) in omega arith) }
+-- what the code answers of two numbers whose b1 is 0: nothing where one is malformed
+abbrev pub Multiplied : Number → Number → Option Number → Type 0
+Multiplied x y r = MatchOption r (malformed x || malformed y ≡ true) (λ n. (malformed x || malformed y ≡ false) × (product_of x y ≡ Some n))
 
 -- A whole number below 2^32, from 1 on, times 2^0: the full number that stands for it.
 whole_at : (s q : ℕ) → 0 < q → q < 2 ^ 32 → product_at s q 320 ≡ Some (full_of_short s q)

@@ -3,4 +3,4 @@
 
 mod product;
 
-pub use product::{Product, multiplication, short_product};
+pub use product::{multiplication, short_product};

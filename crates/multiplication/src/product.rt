@@ -7,57 +7,29 @@ ghost use Rattle.multiplication.specs.ShortProduct.{Multiplied};
 use ending::BIAS;
 use number::{CARRY, Number, TOP_BIT};
 
-// What two numbers whose b1 is 0 come to, unless one is malformed.
-#[derive(Clone, Copy)]
-pub struct Product {
-    pub malformed: bool,
-    pub b1: u8,
-    pub word: u32,
-}
-
-// Of two numbers whose b1 is 0, each by its b2, as the low byte of a word, and its low half. Their product is below 2^32, so nothing is rounded: beyond
-// 65,535 it is the full number of its value, and no number is re-stacked.
-pub fn short_product(b: u32, h: u16, c: u32, k: u16) -> Product
+// Of two numbers whose b1 is 0, each by its b2, as the low byte of a word, and its low half: none where one is malformed. Their product is below 2^32, so nothing
+// is rounded: beyond 65,535 it is the full number of its value, and no number is re-stacked.
+pub fn short_product(b: u32, h: u16, c: u32, k: u16) -> Option<Number>
     ensures { (w v : ℕ) → w / 2 ^ 24 ≡ b % 256 → low (number 0 w) ≡ h → v / 2 ^ 24 ≡ c % 256 → low (number 0 v) ≡ k → Multiplied (number 0 w) (number 0 v) result }
 {
-    let x = number::magnitude_of(b, h);
-    if x.malformed {
-        return Product {
-            malformed: true,
-            b1: 0,
-            word: 0,
-        };
-    }
-    let y = number::magnitude_of(c, k);
-    if y.malformed {
-        return Product {
-            malformed: true,
-            b1: 0,
-            word: 0,
-        };
-    }
+    let x = number::magnitude_of(b, h)?;
+    let y = number::magnitude_of(c, k)?;
     let v = x.v * y.v;
     if v == 0 {
-        return Product {
-            malformed: false,
-            b1: 0,
-            word: 0,
-        };
+        return Some(Number { b1: 0, word: 0 });
     }
     let sign = (x.mask ^ y.mask) / 2147483648;
     if v < 65536 {
-        return Product {
-            malformed: false,
+        return Some(Number {
             b1: 0,
             word: number::short_word(sign as u8, v as u16),
-        };
+        });
     }
     let places = number::leading_zeros(v);
-    Product {
-        malformed: false,
+    Some(Number {
         b1: (160 - places) as u8,
         word: number::full_word(sign as u8, (v << places) as u64),
-    }
+    })
 }
 
 // Of a mantissa, whose top bit goes without saying, and what it is multiplied by: another mantissa, or a short number's magnitude, which need not be made normal

@@ -1,5 +1,5 @@
 -- Literal 4's row of the table, and what is known of its two numbers once they are there. No public contract cites this file.
-use Rattle.std.specs.Prelude.{ℕ, ◌+◌, ◌*◌, ◌^◌, ◌/◌, ◌%◌, ◌<◌, ◌≡◌, refl, Bool, true, false, ◌||◌, List}
+use Rattle.std.specs.Prelude.{ℕ, ◌+◌, ◌*◌, ◌^◌, ◌/◌, ◌%◌, ◌<◌, ◌≡◌, refl, Bool, true, false, ◌||◌, List, Option, Some, None, MatchOption}
 use Rattle.std.proofs.Common.{sym, ◌∙◌, ap, ap₂, arith, eq-eqb}
 use Rattle.std.proofs.Math.Bool.{or_comm}
 use Rattle.std.specs.Int.Bits.{bit_xor}
@@ -9,7 +9,7 @@ use Rattle.number.specs.Number.{number, sign, malformed, mantissa}
 use Rattle.number.specs.NumberLaws.{Bytes}
 use Rattle.number.specs.FormLaws.{malformed_full}
 use Rattle.number.specs.declared.operand.Magnitude.{Magnitude}
-use Rattle.number.specs.Operand.{Measures}
+use Rattle.number.specs.Operand.{Measured}
 use Rattle.slots.specs.Reach.{lacking, number_at}
 use Rattle.multiplication.specs.Multiplication.{both_short, product_of}
 use Rattle.division.proofs.DivisionLaws.{signs_differ}
@@ -48,35 +48,29 @@ pair_malformed s d old b p m =
 pub second_full : (x y : Number) → both_short x y ≡ false → x.b1 ≡ 0 → y.b1 ≡ 0 → ⊥
 second_full x y h f g = let z : ◌≡◌ {A = ℕ} 0 1 = cc (simp (eq-eqb x.b1 0 f, eq-eqb y.b1 0 g) at h) in omega arith
 
--- what they are of two numbers
-pub record Factored (x y : Number) (f : Factors) : Type 0 where
-  pub form : f.malformed ≡ malformed x || malformed y
-  pub is : malformed x || malformed y ≡ false → product_at (f.sign / 2 ^ 31) ((f.m % 2 ^ 31 + 2 ^ 31) * f.n) f.e ≡ product_of x y
+-- what they are of two numbers: there are none where one is malformed
+abbrev pub Factored : Number → Number → Option Factors → Type 0
+Factored x y o =
+    MatchOption o (malformed x || malformed y ≡ true)
+    (λ f. (malformed x || malformed y ≡ false) × (product_at (f.sign / 2 ^ 31) ((f.m % 2 ^ 31 + 2 ^ 31) * f.n) f.e ≡ product_of x y))
 
-abbrev pub factors_of : Bool → ℕ → ℕ → ℕ → ℕ → Factors
-factors_of b s m n e = record { malformed = b; sign = s; m = m; n = n; e = e }
+abbrev pub factors_of : ℕ → ℕ → ℕ → ℕ → Factors
+factors_of s m n e = record { sign = s; m = m; n = n; e = e }
 
-pub factored_swapped : (x y : Number) (f : Factors) → Factored y x f → Factored x y f
-factored_swapped x y f h =
-    let same = or_comm (malformed y) (malformed x) in
-    record { form = h.form ∙ same; is = λ m. h.is (same ∙ m) ∙ product_commutes y x }
+pub factored_swapped : (x y : Number) (o : Option Factors) → Factored y x o → Factored x y o
+factored_swapped x y None h = or_comm (malformed x) (malformed y) ∙ h
+factored_swapped x y (Some f) h = (or_comm (malformed x) (malformed y) ∙ h.0, h.1 ∙ product_commutes y x)
 
 module _ (x y : Number) (bx : Bytes x) (by : Bytes y) (f : x.b1 ≡ 0 → ⊥) where
-  pub factored_full : (y.b1 ≡ 0 → ⊥) → Factored x y (factors_of false (bit_xor x.word y.word) x.word (mantissa y) (x.b1 + y.b1))
-  factored_full g =
-      record {
-        form = sym (simp (malformed_full x f, malformed_full y g));
-        is = λ m. ap (λ (s : ℕ). product_at s (mantissa x * mantissa y) (x.b1 + y.b1)) (signs_differ x.word y.word (omega arith) (omega arith)) ∙ sym (full_by_full x y bx by f g);
-      }
+  pub factored_full : (y.b1 ≡ 0 → ⊥) → Factored x y (Some (factors_of (bit_xor x.word y.word) x.word (mantissa y) (x.b1 + y.b1)))
+  factored_full g = (
+    simp (malformed_full x f, malformed_full y g),
+    ap (λ (s : ℕ). product_at s (mantissa x * mantissa y) (x.b1 + y.b1)) (signs_differ x.word y.word (omega arith) (omega arith)) ∙ sym (full_by_full x y bx by f g),
+  )
 
-  pub factored_short : y.b1 ≡ 0 → (m : Magnitude) → m.mask < 2 ^ 32 → Measures y m → Factored x y (factors_of m.malformed (bit_xor x.word m.mask) x.word m.v (x.b1 + 160))
-  factored_short g m l h =
-      let first = malformed_full x f in
-      record {
-        form = h.form ∙ sym (simp first);
-        is = λ k.
-            let other : malformed y ≡ false = simp first at k in
-            ap₂ (λ (s v : ℕ). product_at s (mantissa x * v) (x.b1 + 160))
-            (signs_differ x.word m.mask (omega arith) l ∙ ap (λ (s : ℕ). (sign x + s) % 2) (h.signs other)) (h.away other)
-            ∙ sym (full_by_short x y bx by f g);
-      }
+  pub factored_short : y.b1 ≡ 0 → (m : Magnitude) → m.mask < 2 ^ 32 → Measured y m → Factored x y (Some (factors_of (bit_xor x.word m.mask) x.word m.v (x.b1 + 160)))
+  factored_short g m l h = (
+    simp (malformed_full x f, h.form),
+    ap₂ (λ (s v : ℕ). product_at s (mantissa x * v) (x.b1 + 160)) (signs_differ x.word m.mask (omega arith) l ∙ ap (λ (s : ℕ). (sign x + s) % 2) h.signs) h.away
+        ∙ sym (full_by_short x y bx by f g),
+  )

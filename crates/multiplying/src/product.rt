@@ -8,7 +8,6 @@ ghost use Rattle.multiplication.specs.Multiplication.{both_short};
 ghost use Rattle.multiplying.specs.Product.{Pair, Factored};
 
 use literals::table;
-use number::Number;
 use operands::store;
 
 pub fn multiply(stack: &mut [u8], depth: &mut usize) -> u8
@@ -41,24 +40,19 @@ fn short_route(stack: &mut [u8], depth: &mut usize, old: usize) -> u8
     requires { Pair stack.old depth.old old true }
     ensures { operate_of Shipped stack.old depth.old 4 ≡ (outcome result depth.new, stack.new) }
 {
-    let product = multiplication::short_product(
+    let Some(product) = multiplication::short_product(
         places::b2_at(stack, old, 1) as u32,
         places::low_at(stack, old, 1),
         places::b2_at(stack, old, 0) as u32,
         places::low_at(stack, old, 0),
-    );
-    if product.malformed {
+    ) else {
         return 3;
-    }
-    let answer = Some(Number {
-        b1: product.b1,
-        word: product.word,
-    });
+    };
     store(
         stack,
         depth,
         old,
-        answer,
+        Some(product),
         table::MULTIPLY_TAKES,
         table::MULTIPLY_LEAVES,
     )
@@ -68,7 +62,6 @@ fn short_route(stack: &mut [u8], depth: &mut usize, old: usize) -> u8
 // number is multiplied by as it is, with the exponent byte 160.
 #[derive(Clone, Copy)]
 struct Factors {
-    malformed: bool,
     sign: u32,
     m: u32,
     n: u32,
@@ -76,44 +69,42 @@ struct Factors {
 }
 
 // Of a full number and the short one with so many above it.
-fn short_by_full(stack: &[u8], depth: usize, above: u8, word: u32, b1: u8) -> Factors
+fn short_by_full(stack: &[u8], depth: usize, above: u8, word: u32, b1: u8) -> Option<Factors>
     requires { (b1 ≡ 0 → ⊥) × ((number_at stack.now depth above).b1 ≡ 0) }
     ensures { Factored (number b1 word) (number_at stack.now depth above) result }
 {
     let short = number::magnitude_of(
         places::b2_at(stack, depth, above) as u32,
         places::low_at(stack, depth, above),
-    );
-    Factors {
-        malformed: short.malformed,
+    )?;
+    Some(Factors {
         sign: word ^ short.mask,
         m: word,
         n: short.v,
         e: b1 as u32 + 160,
-    }
+    })
 }
 
 // Of a full number, the first, and the second.
-fn by_full(stack: &[u8], depth: usize, word: u32, b1: u8) -> Factors
+fn by_full(stack: &[u8], depth: usize, word: u32, b1: u8) -> Option<Factors>
     requires { b1 ≡ 0 → ⊥ }
     ensures { Factored (number b1 word) (number_at stack.now depth 0) result }
 {
     let c1 = places::b1_at(stack, depth, 0);
     if c1 != 0 {
         let other = places::word_at(stack, depth, 0);
-        return Factors {
-            malformed: false,
+        return Some(Factors {
             sign: word ^ other,
             m: word,
             n: other % 2147483648 + 2147483648,
             e: b1 as u32 + c1 as u32,
-        };
+        });
     }
     short_by_full(stack, depth, 0, word, b1)
 }
 
 // Multiplication commutes, so a short first number is what a full second one is multiplied by.
-fn factored(stack: &[u8], depth: usize) -> Factors
+fn factored(stack: &[u8], depth: usize) -> Option<Factors>
     requires { both_short (number_at stack.now depth 1) (number_at stack.now depth 0) ≡ false }
     ensures { Factored (number_at stack.now depth 1) (number_at stack.now depth 0) result }
 {
@@ -132,10 +123,9 @@ fn full_route(stack: &mut [u8], depth: &mut usize, old: usize) -> u8
     requires { Pair stack.old depth.old old false }
     ensures { operate_of Shipped stack.old depth.old 4 ≡ (outcome result depth.new, stack.new) }
 {
-    let f = factored(stack, old);
-    if f.malformed {
+    let Some(f) = factored(stack, old) else {
         return 3;
-    }
+    };
     let answer = multiplication::multiplication(f.sign, f.m, f.n, f.e);
     store(
         stack,

@@ -1,5 +1,5 @@
 -- The laws of a number as the arithmetic takes it: whether it is malformed, and the parts of its re-stacked form.
-use Rattle.std.specs.Prelude.{◌≡◌, ℕ, ◌+◌, ◌-◌, ◌*◌, ◌/◌, ◌%◌, ◌^◌, ◌<◌, ◌≤◌, false, ◌⊎◌, ◌≢◌, bit_xor, refl}
+use Rattle.std.specs.Prelude.{◌≡◌, ℕ, ◌+◌, ◌-◌, ◌*◌, ◌/◌, ◌%◌, ◌^◌, ◌<◌, ◌≤◌, Option, ◌⊎◌, ◌≢◌, bit_xor, refl}
 use Rattle.std.proofs.Common.{sym, ◌∙◌, ap, subst, inl, inr, mod-eq_of_lt, eq-zero-or-pos, arith, eq-eqb, ne_eqb}
 use Rattle.std.specs.Int.Bits.{xor_add_and, xor_zero_r}
 use Rattle.std.proofs.lemmas.Nat.{and_mask}
@@ -11,10 +11,10 @@ use Rattle.number.specs.NumberLaws.{Bytes}
 use Rattle.number.specs.FormLaws.{malformed_full, malformed_short, malformed_negative}
 use Rattle.number.specs.Restack.{restacked, full_of_short}
 use Rattle.number.proofs.RestackLaws.{restack_full, restack_some}
-use Rattle.number.specs.Operand.{Masked, Unpacks, operand}
+use Rattle.number.specs.Operand.{Masked, Unpacked, Unpacks, operand}
 
 -- what is not full goes by its word alone
-pub unpacks_short : (x : Number) (u : Operand) → x.b1 ≡ 0 → Unpacks (number 0 x.word) u → Unpacks x u
+pub unpacks_short : (x : Number) (u : Option Operand) → x.b1 ≡ 0 → Unpacks (number 0 x.word) u → Unpacks x u
 unpacks_short x u h = subst (λ (b : ℕ). Unpacks (number b x.word) u) (sym h)
 
 -- an exponent byte is its own remainder
@@ -22,10 +22,10 @@ pub packed_byte : (s e m : ℕ) → e < 256 → full_of s (e % 256) m ≡ full_o
 packed_byte s e m h = ap (λ (k : ℕ). full_of s k m) (mod-eq_of_lt h)
 
 -- a full number is its own re-stacked form
-pub full_operand : (x : Number) → Bytes x → (x.b1 ≢ 0) → Unpacks x (operand false x.word x.word x.b1)
+pub full_operand : (x : Number) → Bytes x → (x.b1 ≢ 0) → Unpacked x (operand x.word x.word x.b1)
 full_operand x b h =
     let same : x.word % 2 ^ 31 + 2 ^ 31 * (x.word / 2 ^ 31 % 2) ≡ x.word = omega arith in
-    record { form = sym (malformed_full x h); stands = λ m. ap (number x.b1) same ∙ sym (restack_full x h); byte = omega arith; none = λ e. absurd (h e) }
+    record { form = malformed_full x h; stands = ap (number x.b1) same ∙ sym (restack_full x h); byte = omega arith; none = λ e. absurd (h e) }
 
 -- ---- a short number, by the mask that its b2 makes
 -- with all bits of a mask set, a number is taken from the mask

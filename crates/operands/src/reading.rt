@@ -5,18 +5,17 @@ ghost use Rattle.slots.specs.Reach.{number_at};
 
 use number::Operand;
 
-pub fn operand(stack: &[u8], depth: usize, above: u8) -> Operand
+pub fn operand(stack: &[u8], depth: usize, above: u8) -> Option<Operand>
     ensures { Unpacks (number_at stack.now depth above) result }
 {
     let b1 = places::b1_at(stack, depth, above);
     if b1 != 0 {
         let word = places::word_at(stack, depth, above);
-        return Operand {
-            malformed: false,
+        return Some(Operand {
             sign: word,
             m: word,
             e: b1 as u32,
-        };
+        });
     }
     number::operand_of(
         places::b2_at(stack, depth, above) as u32,

@@ -46,13 +46,12 @@ pub fn re_stack(stack: &mut [u8], depth: &usize) -> u8
     if b1 != 0 {
         return 0;
     }
-    let n = number::operand_of(
+    let Some(n) = number::operand_of(
         places::b2_at(stack, old, 0) as u32,
         places::low_at(stack, old, 0),
-    );
-    if n.malformed {
+    ) else {
         return 3;
-    }
+    };
     if n.e == 0 {
         places::put_at(stack, old, 0, 0, 0);
         return 0;

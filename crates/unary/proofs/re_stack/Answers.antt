@@ -1,7 +1,6 @@
 -- `re_stack` meets its contract: each way out is a case of the operation; a full number stays.
 use Rattle.std.proofs.Common.{ap, ap₂, arith, false, mod-eq_of_lt, refl, sym, ℕ, ◌∙◌, ◌≡◌}
-use Rattle.std.specs.Prelude.{Some}
-use Rattle.ending.specs.Ending.{Answer}
+use Rattle.std.proofs.lemmas.Option.{MatchOption-at_none, MatchOption-at_some}
 use Rattle.edition.specs.declared.Edition.{Edition}
 use Rattle.edition.specs.declared.Edition.TheVariants.{Shipped}
 use Rattle.number.specs.declared.Number.{Number}
@@ -15,7 +14,7 @@ use Rattle.slots.specs.Reach.{lacking, number_at}
 use Rattle.literals.specs.Literals.{row_of}
 use Rattle.literals.proofs.WayLaws.{one_lacking, one_malformed, one_put, one_kept}
 use Rattle.unary.proofs.re_stack.Goals as goal
-use Rattle.unary.proofs.re_stack.Goals.{After-operand_of-n, Else-lacks_at}
+use Rattle.unary.proofs.re_stack.Goals.{After-operand_of, Else-lacks_at}
 
 abbrev f : Edition → Number → Answer
 f = λ ed x. Some (restacked x)
@@ -24,10 +23,9 @@ there : (c : Else-lacks_at) → lacking c.args.stack.now c.args.depth.now 1 ≡ 
 there c = sym c.lacks_at.ensures ∙ c.if-lacks_at.false
 
 -- a short number, by its parts
-unpacked : (c : After-operand_of-n) → Unpacks (number_at c.args.stack.now c.args.depth.now 0) c.operand_of-n.result
+unpacked : (c : After-operand_of) → Unpacks (number_at c.args.stack.now c.args.depth.now 0) c.operand_of.result
 unpacked c =
-    let e = c in
-    unpacks_short _ _ (sym e.b1_at-b1.ensures ∙ e.if-b1-ne0.false) (c.operand_of-n.ensures _ (sym c.b2_at.ensures ∙ sym (mod-eq_of_lt (omega arith))) (sym c.low_at.ensures))
+    unpacks_short _ _ (sym c.b1_at-b1.ensures ∙ c.if-b1-ne0.false) (c.operand_of.ensures _ (sym c.b2_at.ensures ∙ sym (mod-eq_of_lt (omega arith))) (sym c.low_at.ensures))
 
 pub returns-then-lacks_at : goal.returns-then-lacks_at
 unfolding row_of
@@ -39,24 +37,19 @@ returns-then-b1-ne0 c =
     let full : ¬ (◌≡◌ {A = ℕ} _ 0) = λ z. c.if-b1-ne0.true (c.b1_at-b1.ensures ∙ z) in
     one_kept Shipped _ _ 61 f refl (there (goal.at.returns-then-b1-ne0 c).Else-lacks_at) (λ k. omega (arith, c.slice_known-1.given k)) (malformed_full _ full) (ap Some (restack_full _ full))
 
-pub returns-then-n : goal.returns-then-n
+pub returns-in_default : goal.returns-in_default
 unfolding row_of
-returns-then-n c = one_malformed Shipped _ _ 61 f refl (there (goal.at.returns-then-n c).Else-lacks_at) (sym (unpacked (goal.at.returns-then-n c).After-operand_of-n).form ∙ c.if-n.true)
+returns-in_default c =
+    one_malformed Shipped _ _ 61 f refl (there (goal.at.returns-in_default c).Else-lacks_at) (MatchOption-at_none _ _ c.in_default.is (unpacked (goal.at.returns-in_default c).After-operand_of))
 
 pub returns-then-n-eq0 : goal.returns-then-n-eq0
 unfolding row_of
 returns-then-n-eq0 c =
-    let p = c in
-    let o = c in
-    let u = unpacked (goal.at.returns-then-n-eq0 c).After-operand_of-n in
-    let m = sym u.form ∙ o.if-n.false in
-    one_put Shipped _ _ 61 f refl (there (goal.at.returns-then-n-eq0 c).Else-lacks_at) refl refl m (ap Some (sym (u.stands m) ∙ u.none p.if-n-eq0.true)) p.put_at.ensures
+    let u = MatchOption-at_some _ _ _ c.in-Some.is (unpacked (goal.at.returns-then-n-eq0 c).After-operand_of) in
+    one_put Shipped _ _ 61 f refl (there (goal.at.returns-then-n-eq0 c).Else-lacks_at) refl refl u.form (ap Some (sym u.stands ∙ u.none c.if-n-eq0.true)) c.put_at.ensures
 
 pub returns : goal.returns
 unfolding row_of
 returns c =
-    let p = c in
-    let o = c in
-    let u = unpacked (goal.at.returns c).After-operand_of-n in
-    let m = sym u.form ∙ o.if-n.false in
-    one_put Shipped _ _ 61 f refl (there (goal.at.returns c).Else-lacks_at) refl refl m (ap Some (sym (u.stands m) ∙ ap₂ number (sym (mod-eq_of_lt u.byte)) (omega arith))) p.put_at-2.ensures
+    let u = MatchOption-at_some _ _ _ c.in-Some.is (unpacked (goal.at.returns c).After-operand_of) in
+    one_put Shipped _ _ 61 f refl (there (goal.at.returns c).Else-lacks_at) refl refl u.form (ap Some (sym u.stands ∙ ap₂ number (sym (mod-eq_of_lt u.byte)) (omega arith))) c.put_at-2.ensures

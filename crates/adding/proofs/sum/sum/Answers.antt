@@ -3,7 +3,7 @@ use Rattle.std.proofs.Common.{List, ap, ap₂, arith, false, refl, subst, sym, �
 use Rattle.edition.specs.declared.Edition.TheVariants.{Shipped}
 use Rattle.addition.specs.declared.short.Short.{Short}
 use Rattle.addition.specs.SignBytes.{Says}
-use Rattle.slots.specs.Reach.{lacking, refusal_of, number_at}
+use Rattle.slots.specs.Reach.{lacking, number_at}
 use Rattle.slots.specs.ReachLaws.{has}
 use Rattle.literals.specs.Operate.{outcome}
 use Rattle.literals.proofs.WayLaws.{two_lacking, two_malformed, two_done}
@@ -14,7 +14,7 @@ use Rattle.adding.proofs.sum.sum.Goals.{After-short_route-short, Else-lacks_at}
 
 -- both numbers are there
 there : (c : Else-lacks_at) → (let a = c.args in lacking a.stack.now a.depth.now 2 ≡ false)
-there c = ap (lacking _ _) (sym c.requires.1) ∙ sym c.lacks_at.ensures ∙ c.if-lacks_at.false
+there c = sym c.lacks_at.ensures ∙ c.if-lacks_at.false
 
 -- what the short route's answer says
 said : (c : After-short_route-short) (r : Short) → c.short_route-short.result ≡ r → (let a = c.args in
@@ -23,11 +23,8 @@ said c r e = subst (Says _ _ _) e c.short_route-short.ensures
 
 pub returns-then-lacks_at : goal.returns-then-lacks_at
 returns-then-lacks_at c =
-    let t = c in
-    let i = c in
-    let l = flips i.args.flip in
-    two_lacking Shipped _ _ _ (total_of l) (sum_line l) (ap (lacking _ _) (sym i.requires.1) ∙ sym t.lacks_at.ensures ∙ t.if-lacks_at.true) _
-    (c.refusal.ensures ∙ ap (refusal_of _ _) i.requires.1)
+    let l = flips c.args.flip in
+    two_lacking Shipped _ _ _ (total_of l) (sum_line l) (sym c.lacks_at.ensures ∙ c.if-lacks_at.true) _ c.refusal.ensures
 
 pub returns-in-Malformed : goal.returns-in-Malformed
 unfolding Says
@@ -47,7 +44,7 @@ returns-in-Stored c =
     let d = i.args.depth.now in
     let l = flips i.args.flip in
     let t = said (goal.at.returns-in-Stored c).After-short_route-short _ k.in-Stored.is in
-    let after : d - 1 ≡ d - i.args.taken + i.args.left = omega (arith, i.requires, has _ _ _ (there (goal.at.returns-in-Stored c).Else-lacks_at)) in
+    let after : d - 1 ≡ d - 2 + 1 = omega (arith, has _ _ _ (there (goal.at.returns-in-Stored c).Else-lacks_at)) in
     two_done Shipped _ _ _ (total_of l) (sum_line l) (there (goal.at.returns-in-Stored c).Else-lacks_at) t.0 _ t.1 ∙ ap₂ (λ (e : ℕ) (u : List ℕ). (outcome 0 e, u)) after (sym p.put_halves_at.ensures)
 
 pub returns-in-Exact : goal.returns-in-Exact
@@ -59,7 +56,7 @@ returns-in-Exact c =
     let i = c in
     let l = flips i.args.flip in
     let t = said (goal.at.returns-in-Exact c).After-short_route-short _ k.in-Exact.is in
-    two_stored Shipped _ _ _ (total_of l) (sum_line l) (there (goal.at.returns-in-Exact c).Else-lacks_at) t.0 _ _ _ (ap (stored_of i.args.stack.now i.args.depth.now) t.1 ∙ stored_as _ _ _ _ _ _ (refl, there (goal.at.returns-in-Exact c).Else-lacks_at, i.requires.1, i.requires.2) p.store.ensures)
+    two_stored Shipped _ _ _ (total_of l) (sum_line l) (there (goal.at.returns-in-Exact c).Else-lacks_at) t.0 _ _ _ (ap (stored_of i.args.stack.now i.args.depth.now) t.1 ∙ stored_as _ _ _ _ _ _ (refl, there (goal.at.returns-in-Exact c).Else-lacks_at, refl, refl) p.store.ensures)
 
 pub overflow_sub-depth : goal.overflow_sub-depth
-overflow_sub-depth c = let e = c in omega (arith, e.requires, has _ _ _ (there (goal.at.overflow_sub-depth c).Else-lacks_at))
+overflow_sub-depth c = omega (arith, has _ _ _ (there (goal.at.overflow_sub-depth c).Else-lacks_at))

@@ -1,5 +1,6 @@
 -- `term` meets its contract: a full number by its word, and any other by its operand.
-use Rattle.std.proofs.Common.{ap, ap₂, arith, false, of_z, sym, to_z, w64, ℕ, ℤ, ◌%◌, ◌*◌, ◌+◌, ◌/◌, ◌<◌, ◌^◌, ◌∙◌, ◌≡◌}
+use Rattle.std.proofs.Common.{ap, ap₂, arith, false, of_z, Some, sym, to_z, w64, ℕ, ℤ, ◌%◌, ◌*◌, ◌+◌, ◌/◌, ◌<◌, ◌^◌, ◌∙◌, ◌≡◌}
+use Rattle.std.proofs.lemmas.Option.{MatchOption-from_none}
 use Rattle.number.specs.declared.Number.{Number}
 use Rattle.number.specs.Number.{number, malformed}
 use Rattle.number.specs.NumberLaws.{Bytes}
@@ -17,23 +18,23 @@ use Rattle.adding.proofs.term.term.Goals.{After-b1_at-b1, After-word_at}
 
 -- a number as it was read
 Told : (c : After-b1_at-b1) → Summand → Type 0
-Told c u = let a = c.args in (u ≡ term_of (flips a.flip) (number_at a.stack.now a.depth a.above)) × (u.e < 256)
+Told c u = let a = c.args in (Some u ≡ term_of (flips a.flip) (number_at a.stack.now a.depth a.above)) × (u.e < 256)
 
 told : (c : After-b1_at-b1) (n : Number) (u : Summand) → (let a = c.args in
-    n ≡ number_at a.stack.now a.depth a.above → term_of (flips a.flip) n ≡ u → u.e < 256 → Told c u)
+    n ≡ number_at a.stack.now a.depth a.above → term_of (flips a.flip) n ≡ Some u → u.e < 256 → Told c u)
 unfolding Told
 told c n u e g h = (sym (sym (ap (term_of (flips c.args.flip)) e) ∙ g), h)
 
 -- one that does not count as zero, by the parts of its re-stacked form
-some : (c : After-b1_at-b1) (n : Number) (s v g e : ℕ) (r : ℤ) → (let a = c.args in
+some : (c : After-b1_at-b1) (n : Number) (s v e : ℕ) (r : ℤ) → (let a = c.args in
     n ≡ number_at a.stack.now a.depth a.above → Bytes n → malformed n ≡ false → number e (v % 2 ^ 31 + 2 ^ 31 * (s / 2 ^ 31 % 2)) ≡ restacked n
-    → (e ≡ 0 → ⊥) → e < 256 → g ≡ (s + a.flip) % 2 ^ 32 → r ≡ signed (g / 2 ^ 31) (v % 2 ^ 31 + 2 ^ 31) → Told c (term false (to_z w64 (of_z w64 r)) e))
-some c n s v g e r at b m p q l i j =
+    → (e ≡ 0 → ⊥) → e < 256 → r ≡ signed ((s + a.flip) % 2 ^ 32 / 2 ^ 31) (v % 2 ^ 31 + 2 ^ 31) → Told c (term (to_z w64 (of_z w64 r)) e))
+some c n s v e r at b m p q l j =
     let f = c.args.flip in
     let first = ap (λ (y : Number). y.b1) (sym p) in
-    let x = held r _ (j ∙ ap (λ (h : ℕ). signed (h / 2 ^ 31) (v % 2 ^ 31 + 2 ^ 31)) i) (rw (nat_abs_signed ((s + f) % 2 ^ 32 / 2 ^ 31) (v % 2 ^ 31 + 2 ^ 31)) (omega arith)) in
+    let x = held r _ j (rw (nat_abs_signed ((s + f) % 2 ^ 32 / 2 ^ 31) (v % 2 ^ 31 + 2 ^ 31)) (omega arith)) in
     told c n _ at
-    (term_some f n b c.requires m s v (λ z. q (sym first ∙ z)) (ap (λ (y : Number). y.word) (sym p)) ∙ ap₂ (term false) (sym x) first) l
+    (term_some f n b c.requires m s v (λ z. q (sym first ∙ z)) (ap (λ (y : Number). y.word) (sym p)) ∙ ap₂ (λ (i : ℤ) (k : ℕ). Some (term i k)) (sym x) first) l
 
 short_at : (c : After-word_at) → (let d = c in let a = d.args in
     number 0 c.word_at.result ≡ number_at a.stack.now a.depth a.above)
@@ -42,37 +43,28 @@ short_at c = let d = c in ap₂ number (sym c.if-b1-ne0.false ∙ d.b1_at-b1.ens
 pub returns-then-b1-ne0 : goal.returns-then-b1-ne0
 unfolding Told
 returns-then-b1-ne0 c =
-    let g = c in
-    let w = g.word_at-word.result in
-    let d = c in
-    let n = number d.b1_at-b1.result w in
-    let full = g.if-b1-ne0.true in
+    let w = c.word_at-word.result in
+    let n = number c.b1_at-b1.result w in
+    let full = c.if-b1-ne0.true in
     let same : w % 2 ^ 31 + 2 ^ 31 * (w / 2 ^ 31 % 2) ≡ w = omega arith in
-    some (goal.at.returns-then-b1-ne0 c).After-b1_at-b1 n w w _ _ _ (ap₂ number d.b1_at-b1.ensures g.word_at-word.ensures) (omega arith) (malformed_full n full) (ap (number _) same ∙ sym (restack_full n full)) full (omega arith)
-    g.wrapping_add_u32.ensures.value c.signed.ensures
+    some (goal.at.returns-then-b1-ne0 c).After-b1_at-b1 n w w _ _ (ap₂ number c.b1_at-b1.ensures c.word_at-word.ensures) (omega arith) (malformed_full n full) (ap (number _) same ∙ sym (restack_full n full)) full (omega arith)
+    c.signed.ensures
 
-pub returns-then-o : goal.returns-then-o
-unfolding Told
-returns-then-o c =
-    let o = c in
-    told (goal.at.returns-then-o c).After-b1_at-b1 _ _ (short_at (goal.at.returns-then-o c).After-word_at) (term_malformed _ _ (sym o.short_operand-o.ensures.form ∙ c.if-o.true)) (omega arith)
+pub returns-in_err-o : goal.returns-in_err-o
+returns-in_err-o c =
+    let none = c.from_residual.ensures in
+    let at = short_at (goal.at.returns-in_err-o c).After-word_at in
+    (none ∙ sym (ap (term_of _) (sym at) ∙ term_malformed _ _ c.in_err-o.ensures), MatchOption-from_none _ _ none)
 
 pub returns-then-o-eq0 : goal.returns-then-o-eq0
 unfolding Told
 returns-then-o-eq0 c =
-    let e = c in
-    let o = c in
-    let u = o.short_operand-o.ensures in
-    let m = sym u.form ∙ e.if-o.false in
-    let k = o.requires in
-    told (goal.at.returns-then-o-eq0 c).After-b1_at-b1 _ _ (short_at (goal.at.returns-then-o-eq0 c).After-word_at) (term_none _ _ (omega arith) k m (sym (u.stands m) ∙ u.none c.if-o-eq0.true)) (omega arith)
+    let u = c.in_ok-o.ensures in
+    told (goal.at.returns-then-o-eq0 c).After-b1_at-b1 _ _ (short_at (goal.at.returns-then-o-eq0 c).After-word_at)
+    (term_none _ _ (omega arith) c.requires u.form (sym u.stands ∙ u.none c.if-o-eq0.true)) (omega arith)
 
 pub returns : goal.returns
 unfolding Told
 returns c =
-    let g = c in
-    let e = c in
-    let o = c in
-    let u = o.short_operand-o.ensures in
-    let m = sym u.form ∙ e.if-o.false in
-    some (goal.at.returns c).After-b1_at-b1 _ _ _ _ _ _ (short_at (goal.at.returns c).After-word_at) (omega arith) m (u.stands m) g.if-o-eq0.false u.byte g.wrapping_add_u32-2.ensures.value c.signed-2.ensures
+    let u = c.in_ok-o.ensures in
+    some (goal.at.returns c).After-b1_at-b1 _ _ _ _ _ (short_at (goal.at.returns c).After-word_at) (omega arith) u.form u.stands c.if-o-eq0.false u.byte c.signed-2.ensures

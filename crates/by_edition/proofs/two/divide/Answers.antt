@@ -12,28 +12,26 @@ use Rattle.literals.specs.Operate.{outcome}
 use Rattle.literals.proofs.WayLaws.{two_lacking, two_malformed, two_too_big, two_done}
 use Rattle.by_edition.specs.EitherLaws.{pair_refused, formed, formless}
 use Rattle.by_edition.proofs.two.divide.Goals as goal
-use Rattle.by_edition.proofs.two.divide.Goals.{After-division-answer, Else-b, Else-lacks}
+use Rattle.by_edition.proofs.two.divide.Goals.{After-division-answer, In-Some-operand, Else-lacks}
 
 there : (c : Else-lacks) → lacking c.args.stack.now c.args.depth.now 2 ≡ false
 there c = sym c.lacks.ensures ∙ c.if-lacks.false
 
 -- both are well formed in the edition
-good : (c : Else-b)
+good : (c : In-Some-operand)
     → malformed_in c.args.edition (number_at c.args.stack.now c.args.depth.now 1) || malformed_in c.args.edition (number_at c.args.stack.now c.args.depth.now 0) ≡ false
 unfolding row_of
 good c =
     formed c.args.stack.now c.args.depth.now 5 quotient_of refl c.args.edition (sym c.lacks.ensures ∙ c.if-lacks.false) (sym c.odd_pair.ensures ∙ c.if-odd_pair.false)
-    (simp (sym c.operand-a.ensures.form ∙ c.if-a.false, sym c.operand-b.ensures.form ∙ c.if-b.false))
+    (simp (c.in-Some.ensures.form, c.in-Some-operand.ensures.form))
 
 answer : (c : After-division-answer)
     → quotient_of c.args.edition (number_at c.args.stack.now c.args.depth.now 1) (number_at c.args.stack.now c.args.depth.now 0) ≡ c.division-answer.result
 unfolding quotient_of
 answer c =
-    let x = c.operand-a.ensures in
-    let y = c.operand-b.ensures in
-    let m = sym x.form ∙ c.if-a.false in
-    let n = sym y.form ∙ c.if-b.false in
-    sym (c.division-answer.ensures ∙ ap₂ (restacked_quotient _) (packed_byte _ _ _ x.byte ∙ x.stands m) (packed_byte _ _ _ y.byte ∙ y.stands n))
+    let x = c.in-Some.ensures in
+    let y = c.in-Some-operand.ensures in
+    sym (c.division-answer.ensures ∙ ap₂ (restacked_quotient _) (packed_byte _ _ _ x.byte ∙ x.stands) (packed_byte _ _ _ y.byte ∙ y.stands))
 
 pub returns-in-Some : goal.returns-in-Some
 unfolding row_of
@@ -41,7 +39,7 @@ returns-in-Some c =
     let has_two = there (goal.at.returns-in-Some c).Else-lacks in
     let d = c.args.depth.now in
     let after : d - 1 ≡ d - 2 + 1 = omega (arith, has _ _ _ has_two) in
-    two_done c.args.edition c.args.stack.now d 5 quotient_of refl has_two (good (goal.at.returns-in-Some c).Else-b) _
+    two_done c.args.edition c.args.stack.now d 5 quotient_of refl has_two (good (goal.at.returns-in-Some c).In-Some-operand) _
     (answer (goal.at.returns-in-Some c).After-division-answer ∙ c.in-Some.is)
     ∙ ap₂ (λ (i : ℕ) (t : List ℕ). (outcome 0 i, t)) after (sym c.put_at.ensures)
 
@@ -53,22 +51,21 @@ pub returns-then-lacks : goal.returns-then-lacks
 unfolding row_of
 returns-then-lacks c = two_lacking _ _ _ 5 quotient_of refl (sym c.lacks.ensures ∙ c.if-lacks.true) _ c.refusal.ensures
 
-pub returns-then-a : goal.returns-then-a
+pub returns-in_default : goal.returns-in_default
 unfolding row_of
-returns-then-a c =
+returns-in_default c =
     let s = c.args.stack.now in
     let d = c.args.depth.now in
-    two_malformed c.args.edition s d 5 quotient_of refl (there (goal.at.returns-then-a c).Else-lacks)
-    (formless s d 5 quotient_of refl c.args.edition (simp (sym c.operand-a.ensures.form ∙ c.if-a.true)))
+    two_malformed c.args.edition s d 5 quotient_of refl (there (goal.at.returns-in_default c).Else-lacks)
+    (formless s d 5 quotient_of refl c.args.edition (simp c.in_default.ensures))
 
-pub returns-then-b : goal.returns-then-b
+pub returns-in_default-operand : goal.returns-in_default-operand
 unfolding row_of
-returns-then-b c =
+returns-in_default-operand c =
     let s = c.args.stack.now in
     let d = c.args.depth.now in
-    two_malformed c.args.edition s d 5 quotient_of refl (there (goal.at.returns-then-b c).Else-lacks)
-    (formless s d 5 quotient_of refl c.args.edition
-    (ap (λ b. malformed (number_at s d 1) || b) (sym c.operand-b.ensures.form ∙ c.if-b.true) ∙ or-true (malformed (number_at s d 1))))
+    two_malformed c.args.edition s d 5 quotient_of refl (there (goal.at.returns-in_default-operand c).Else-lacks)
+    (formless s d 5 quotient_of refl c.args.edition (ap (λ b. malformed (number_at s d 1) || b) c.in_default-operand.ensures ∙ or-true (malformed (number_at s d 1))))
 
 pub overflow_sub-depth : goal.overflow_sub-depth
 unfolding row_of
@@ -77,5 +74,5 @@ overflow_sub-depth c = omega (arith, has _ _ _ (there (goal.at.overflow_sub-dept
 pub returns-in-None : goal.returns-in-None
 unfolding row_of
 returns-in-None c =
-    two_too_big c.args.edition c.args.stack.now c.args.depth.now 5 quotient_of refl (there (goal.at.returns-in-None c).Else-lacks) (good (goal.at.returns-in-None c).Else-b)
+    two_too_big c.args.edition c.args.stack.now c.args.depth.now 5 quotient_of refl (there (goal.at.returns-in-None c).Else-lacks) (good (goal.at.returns-in-None c).In-Some-operand)
     (answer (goal.at.returns-in-None c).After-division-answer ∙ c.in-None.is)

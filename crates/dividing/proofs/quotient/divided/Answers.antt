@@ -1,9 +1,10 @@
 -- `divided` meets its contract: the second number has its parts too, or is malformed.
-use Rattle.std.proofs.Common.{ap, ap₂, arith, false, mod-eq_of_lt, subst, sym, ℕ, ◌∙◌}
+use Rattle.std.proofs.Common.{ap, ap₂, arith, mod-eq_of_lt, subst, sym, ℕ, ◌∙◌}
+use Rattle.std.proofs.lemmas.Option.{MatchOption-at_none, MatchOption-at_some}
 use Rattle.edition.specs.declared.Edition.TheVariants.{Shipped}
 use Rattle.number.specs.declared.Number.{Number}
 use Rattle.number.specs.Number.{number}
-use Rattle.number.specs.Operand.{operand, Unpacks}
+use Rattle.number.specs.Operand.{operand, Unpacked, Unpacks}
 use Rattle.number.proofs.OperandLaws.{full_operand, unpacks_short}
 use Rattle.division.specs.Division.{quotient_of}
 use Rattle.slots.specs.Reach.{number_at}
@@ -11,35 +12,25 @@ use Rattle.literals.specs.Operate.{outcome, operate_of}
 use Rattle.literals.proofs.WayLaws.{two_malformed}
 use Rattle.dividing.specs.Quotient.{division_line}
 use Rattle.dividing.proofs.quotient.divided.Goals as goal
-use Rattle.dividing.proofs.quotient.divided.Goals.{After-operand_of-b, After-word_at-word}
+use Rattle.dividing.proofs.quotient.divided.Goals.{After-operand_of}
 
--- a full divisor
-whole : (c : After-word_at-word) → Unpacks (number_at c.args.stack.now c.args.old 0) (operand false c.word_at-word.result c.word_at-word.result c.b1_at-b1.result)
-whole c =
-    let d = c in
-    let b = d.b1_at-b1.result in
-    let w = c.word_at-word.result in
-    subst (λ (x : Number). Unpacks x (operand false w w b)) (ap₂ number d.b1_at-b1.ensures c.word_at-word.ensures) (full_operand (number b w) (omega arith) d.if-b1-ne0.true)
+-- a divisor that is not full
+short : (c : After-operand_of) → Unpacks (number_at c.args.stack.now c.args.old 0) c.operand_of.result
+short c = unpacks_short _ _ (sym c.b1_at-b1.ensures ∙ c.if-b1-ne0.false) (c.operand_of.ensures _ (sym c.b2_at.ensures ∙ sym (mod-eq_of_lt (omega arith))) (sym c.low_at.ensures))
 
--- any other
-short : (c : After-operand_of-b) → Unpacks (number_at c.args.stack.now c.args.old 0) c.operand_of-b.result
-short c =
-    let e = c in
-    unpacks_short _ _ (sym e.b1_at-b1.ensures ∙ e.if-b1-ne0.false) (c.operand_of-b.ensures _ (sym c.b2_at.ensures ∙ sym (mod-eq_of_lt (omega arith))) (sym c.low_at.ensures))
-
-pub returns-then-b : goal.returns-then-b
-returns-then-b c =
-    let i = c in
-    let x = i.requires in
-    ap (λ (k : ℕ). operate_of Shipped i.args.stack.now k 5) x.same
-    ∙ two_malformed Shipped _ _ _ quotient_of division_line x.there (simp (sym x.first.form, sym (short c.before).form ∙ c.if-b.true))
-    ∙ ap (λ (k : ℕ). (outcome 3 k, i.args.stack.now)) (sym x.same)
+pub returns-in_default : goal.returns-in_default
+returns-in_default c =
+    let x = c.requires in
+    let m = MatchOption-at_none _ _ c.in_default.is (short (goal.at.returns-in_default c).After-operand_of) in
+    ap (λ (k : ℕ). operate_of Shipped c.args.stack.now k 5) x.same
+    ∙ two_malformed Shipped _ _ _ quotient_of division_line x.there (simp (x.first.form, m))
+    ∙ ap (λ (k : ℕ). (outcome 3 k, c.args.stack.now)) (sym x.same)
 
 pub quotient-requires : goal.quotient-requires
-quotient-requires c = (c.requires, whole c.before.before)
+quotient-requires c =
+    let b = c.b1_at-b1.result in
+    let w = c.word_at-word.result in
+    (c.requires, subst (λ (x : Number). Unpacked x (operand w w b)) (ap₂ number c.b1_at-b1.ensures c.word_at-word.ensures) (full_operand (number b w) (omega arith) c.if-b1-ne0.true))
 
 pub quotient-requires-2 : goal.quotient-requires-2
-quotient-requires-2 c =
-    let o = c in
-    let u = short c.before.before.before in
-    (c.requires, record { form = sym o.if-b.false ∙ u.form; stands = u.stands; byte = u.byte; none = u.none })
+quotient-requires-2 c = (c.requires, MatchOption-at_some _ _ _ c.in-Some.is (short (goal.at.quotient-requires-2 c).After-operand_of))

@@ -7,17 +7,12 @@ use Rattle.operands.specs.Stored.{stored_of, stored_as, two_stored}
 use Rattle.multiplying.specs.Product.{product_line, pair_malformed}
 use Rattle.multiplying.proofs.product.full_route.Goals as goal
 
+pub returns-in_default : goal.returns-in_default
+returns-in_default c = pair_malformed _ _ _ _ c.requires c.in_default.ensures
+
 pub returns : goal.returns
 returns c =
-    let p = c in
-    let a = c in
-    let e = c in
-    let f = c in
-    let i = c in
-    let m = sym f.factored-f.ensures.form ∙ e.if-f.false in
-    let is = a.multiplication-answer.ensures ∙ f.factored-f.ensures.is m in
-    ap (λ (d : ℕ). operate_of Shipped i.args.stack.now d 4) i.requires.same
-    ∙ two_stored Shipped _ _ _ (λ ed. product_of) product_line i.requires.there m _ _ _ (ap₂ (stored_of i.args.stack.now) (sym i.requires.same) (sym is) ∙ stored_as _ _ _ _ _ _ (i.requires.same, i.requires.there, refl, refl) p.store.ensures)
-
-pub returns-then-f : goal.returns-then-f
-returns-then-f c = let f = c in pair_malformed _ _ _ _ f.requires (sym f.factored-f.ensures.form ∙ c.if-f.true)
+    let f = c.in-Some.ensures in
+    let is = c.multiplication-answer.ensures ∙ f.1 in
+    ap (λ (d : ℕ). operate_of Shipped c.args.stack.now d 4) c.requires.same
+    ∙ two_stored Shipped _ _ _ (λ ed. product_of) product_line c.requires.there f.0 _ _ _ (ap₂ (stored_of c.args.stack.now) (sym c.requires.same) (sym is) ∙ stored_as _ _ _ _ _ _ (c.requires.same, c.requires.there, refl, refl) c.store.ensures)

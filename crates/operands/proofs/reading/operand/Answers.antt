@@ -1,8 +1,8 @@
 -- `operand` meets its contract: a full number as it is, and any other by its b2 and its low half.
-use Rattle.std.proofs.Common.{ap₂, arith, false, mod-eq_of_lt, subst, sym, ◌∙◌}
+use Rattle.std.proofs.Common.{ap₂, arith, mod-eq_of_lt, subst, sym, ◌∙◌}
 use Rattle.number.specs.declared.Number.{Number}
 use Rattle.number.specs.Number.{number}
-use Rattle.number.specs.Operand.{Unpacks, operand}
+use Rattle.number.specs.Operand.{Unpacked, operand}
 use Rattle.number.proofs.OperandLaws.{full_operand, unpacks_short}
 use Rattle.operands.proofs.reading.operand.Goals as goal
 
@@ -11,7 +11,7 @@ returns-then-b1-ne0 c =
     let d = c in
     let b = d.b1_at-b1.result in
     let w = c.word_at-word.result in
-    subst (λ (x : Number). Unpacks x (operand false w w b)) (ap₂ number d.b1_at-b1.ensures c.word_at-word.ensures) (full_operand (number b w) (omega arith) d.if-b1-ne0.true)
+    subst (λ (x : Number). Unpacked x (operand w w b)) (ap₂ number d.b1_at-b1.ensures c.word_at-word.ensures) (full_operand (number b w) (omega arith) d.if-b1-ne0.true)
 
 pub returns : goal.returns
 returns c =
