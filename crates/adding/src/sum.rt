@@ -6,6 +6,7 @@ ghost use Rattle.literals.specs.Operate.{outcome, operate_of};
 ghost use Rattle.addition.specs.declared.short.Short.TheVariants.{Beyond};
 ghost use Rattle.addition.specs.SignBytes.{Says};
 ghost use Rattle.adding.specs.Sum.{flips, literal_of};
+ghost use Rattle.slots.specs.Numbers.{number_of};
 
 use crate::term::term;
 use addition::Short;
@@ -13,15 +14,16 @@ use ending::Answer;
 use literals::table;
 use number::Number;
 use operands::store;
+use slots::Report;
 
-pub fn add(stack: &mut [u8], depth: &mut usize) -> u8
-    ensures { operate_of Shipped stack.old depth.old 15 ≡ (outcome result depth.new, stack.new) }
+pub fn add(stack: &mut [u8], depth: &mut usize) -> Report
+    ensures { operate_of Shipped stack.old depth.old 15 ≡ (outcome (number_of result) depth.new, stack.new) }
 {
     sum(stack, depth, 0, table::ADD_TAKES, table::ADD_LEAVES)
 }
 
-pub fn subtract(stack: &mut [u8], depth: &mut usize) -> u8
-    ensures { operate_of Shipped stack.old depth.old 3 ≡ (outcome result depth.new, stack.new) }
+pub fn subtract(stack: &mut [u8], depth: &mut usize) -> Report
+    ensures { operate_of Shipped stack.old depth.old 3 ≡ (outcome (number_of result) depth.new, stack.new) }
 {
     sum(
         stack,
@@ -52,9 +54,9 @@ fn short_route(stack: &[u8], depth: usize, flip: u32) -> Short
 }
 
 // What is added to the second number's word flips its sign, for a difference, or is 0.
-fn sum(stack: &mut [u8], depth: &mut usize, flip: u32, taken: usize, left: usize) -> u8
+fn sum(stack: &mut [u8], depth: &mut usize, flip: u32, taken: usize, left: usize) -> Report
     requires { ((flip ≡ 0) ⊎ (flip ≡ 2 ^ 31)) × (taken ≡ 2) × (left ≡ 1) }
-    ensures { operate_of Shipped stack.old depth.old (literal_of (flips flip)) ≡ (outcome result depth.new, stack.new) }
+    ensures { operate_of Shipped stack.old depth.old (literal_of (flips flip)) ≡ (outcome (number_of result) depth.new, stack.new) }
 {
     let old = *depth;
     if slots::lacks_at(stack, depth, taken) {
@@ -62,11 +64,11 @@ fn sum(stack: &mut [u8], depth: &mut usize, flip: u32, taken: usize, left: usize
     }
     let short = short_route(stack, old, flip);
     match short {
-        Short::Malformed => 3,
+        Short::Malformed => Report::Malformed,
         Short::Stored(byte, low) => {
             places::put_halves_at(stack, old, 1, byte, low);
             *depth = *depth - taken + left;
-            0
+            Report::Done
         }
         Short::Exact(word) => {
             let answer = Answer::Done(Number { b1: 145, word });
@@ -83,18 +85,18 @@ fn full_route(
     flip: u32,
     taken: usize,
     left: usize,
-) -> u8
+) -> Report
     requires { ((flip ≡ 0) ⊎ (flip ≡ 2 ^ 31)) × (taken ≡ 2) × (left ≡ 1) × (depth.old ≡ old) × (lacking stack.old old 2 ≡ false)
         × Says (flips flip) (number_at stack.old old 1) (number_at stack.old old 0) Beyond }
-    ensures { operate_of Shipped stack.old depth.old (literal_of (flips flip)) ≡ (outcome result depth.new, stack.new) }
+    ensures { operate_of Shipped stack.old depth.old (literal_of (flips flip)) ≡ (outcome (number_of result) depth.new, stack.new) }
 {
     let b = term(stack, old, 0, flip);
     if b.malformed {
-        return 3;
+        return Report::Malformed;
     }
     let a = term(stack, old, 1, 0);
     if a.malformed {
-        return 3;
+        return Report::Malformed;
     }
     let answer = addition::aligned_sum(a.x, a.e, b.x, b.e);
     store(stack, depth, old, answer, taken, left)

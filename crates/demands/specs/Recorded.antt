@@ -1,7 +1,7 @@
 -- A5, the recording that this machine makes of a count: replayed on the same stack, its records all agree, and the replay leaves what the count left.
 use Rattle.std.specs.Prelude.{ℕ, suc, ◌*◌, ◌≤◌, ◌≡◌, refl, false, List, [], ◌∷◌, ◌++◌, length}
 use Rattle.std.proofs.Common.{sym, ◌∙◌, ap, arith, length-append, take_at, drop_at}
-use Rattle.slots.specs.declared.outcome.Outcome.{Outcome}
+use Rattle.slots.specs.Outcome.{Outcome}
 use Rattle.slots.specs.Reports.{over_limits}
 use Rattle.slots.specs.LimitLaws.{within}
 use Rattle.recording.specs.Recording.{records, zeros, stray, not_a_recording}

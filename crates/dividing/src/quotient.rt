@@ -5,14 +5,16 @@ ghost use Rattle.slots.specs.Reach.{number_at};
 ghost use Rattle.edition.specs.declared.Edition.TheVariants.{Shipped};
 ghost use Rattle.literals.specs.Operate.{outcome, operate_of};
 ghost use Rattle.dividing.specs.Quotient.{First};
+ghost use Rattle.slots.specs.Numbers.{number_of};
 
 use edition::Edition;
 use literals::table;
 use operands::{operand, store};
+use slots::Report;
 
 // A dividend that counts as zero goes the same way apart, so that any other is not asked about again.
-pub fn divide(stack: &mut [u8], depth: &mut usize) -> u8
-    ensures { operate_of Shipped stack.old depth.old 5 ≡ (outcome result depth.new, stack.new) }
+pub fn divide(stack: &mut [u8], depth: &mut usize) -> Report
+    ensures { operate_of Shipped stack.old depth.old 5 ≡ (outcome (number_of result) depth.new, stack.new) }
 {
     let old = *depth;
     if slots::lacks_at(stack, depth, table::DIVIDE_TAKES) {
@@ -20,7 +22,7 @@ pub fn divide(stack: &mut [u8], depth: &mut usize) -> u8
     }
     let a = operand(stack, old, 1);
     if a.malformed {
-        return 3;
+        return Report::Malformed;
     }
     if a.e == 0 {
         return divided(stack, depth, old, 0, 0, 0);
@@ -29,9 +31,9 @@ pub fn divide(stack: &mut [u8], depth: &mut usize) -> u8
 }
 
 // With the first number re-stacked. A full divisor and a short one go on apart: the compiler then has each one's exponent where it is used.
-fn divided(stack: &mut [u8], depth: &mut usize, old: usize, sign: u32, m: u32, e: u32) -> u8
+fn divided(stack: &mut [u8], depth: &mut usize, old: usize, sign: u32, m: u32, e: u32) -> Report
     requires { First stack.old depth.old old sign m e }
-    ensures { operate_of Shipped stack.old depth.old 5 ≡ (outcome result depth.new, stack.new) }
+    ensures { operate_of Shipped stack.old depth.old 5 ≡ (outcome (number_of result) depth.new, stack.new) }
 {
     let b1 = places::b1_at(stack, old, 0);
     if b1 != 0 {
@@ -43,7 +45,7 @@ fn divided(stack: &mut [u8], depth: &mut usize, old: usize, sign: u32, m: u32, e
         places::low_at(stack, old, 0),
     );
     if b.malformed {
-        return 3;
+        return Report::Malformed;
     }
     quotient(stack, depth, old, sign, m, e, b.sign, b.m, b.e)
 }
@@ -59,9 +61,9 @@ fn quotient(
     t: u32,
     n: u32,
     f: u32,
-) -> u8
+) -> Report
     requires { First stack.old depth.old old sign m e × Unpacks (number_at stack.old old 0) (operandOf false t n f) }
-    ensures { operate_of Shipped stack.old depth.old 5 ≡ (outcome result depth.new, stack.new) }
+    ensures { operate_of Shipped stack.old depth.old 5 ≡ (outcome (number_of result) depth.new, stack.new) }
 {
     let answer = division::division(Edition::Shipped, sign, m, e, t, n, f);
     store(

@@ -6,14 +6,16 @@ ghost use Rattle.edition.specs.declared.Edition.TheVariants.{Shipped};
 ghost use Rattle.literals.specs.Operate.{outcome, operate_of};
 ghost use Rattle.multiplication.specs.Multiplication.{both_short};
 ghost use Rattle.multiplying.specs.Product.{Pair, Factored};
+ghost use Rattle.slots.specs.Numbers.{number_of};
 
 use ending::Answer;
 use literals::table;
 use number::Number;
 use operands::store;
+use slots::Report;
 
-pub fn multiply(stack: &mut [u8], depth: &mut usize) -> u8
-    ensures { operate_of Shipped stack.old depth.old 4 ≡ (outcome result depth.new, stack.new) }
+pub fn multiply(stack: &mut [u8], depth: &mut usize) -> Report
+    ensures { operate_of Shipped stack.old depth.old 4 ≡ (outcome (number_of result) depth.new, stack.new) }
 {
     let old = *depth;
     if slots::lacks_at(stack, depth, table::MULTIPLY_TAKES) {
@@ -38,9 +40,9 @@ fn both_short(stack: &[u8], depth: usize) -> bool
 }
 
 // Of two short numbers, or odd ones. Neither is re-stacked.
-fn short_route(stack: &mut [u8], depth: &mut usize, old: usize) -> u8
+fn short_route(stack: &mut [u8], depth: &mut usize, old: usize) -> Report
     requires { Pair stack.old depth.old old true }
-    ensures { operate_of Shipped stack.old depth.old 4 ≡ (outcome result depth.new, stack.new) }
+    ensures { operate_of Shipped stack.old depth.old 4 ≡ (outcome (number_of result) depth.new, stack.new) }
 {
     let product = multiplication::short_product(
         places::b2_at(stack, old, 1) as u32,
@@ -49,7 +51,7 @@ fn short_route(stack: &mut [u8], depth: &mut usize, old: usize) -> u8
         places::low_at(stack, old, 0),
     );
     if product.malformed {
-        return 3;
+        return Report::Malformed;
     }
     let answer = Answer::Done(Number {
         b1: product.b1,
@@ -129,13 +131,13 @@ fn factored(stack: &[u8], depth: usize) -> Factors
 }
 
 // Where one is full.
-fn full_route(stack: &mut [u8], depth: &mut usize, old: usize) -> u8
+fn full_route(stack: &mut [u8], depth: &mut usize, old: usize) -> Report
     requires { Pair stack.old depth.old old false }
-    ensures { operate_of Shipped stack.old depth.old 4 ≡ (outcome result depth.new, stack.new) }
+    ensures { operate_of Shipped stack.old depth.old 4 ≡ (outcome (number_of result) depth.new, stack.new) }
 {
     let f = factored(stack, old);
     if f.malformed {
-        return 3;
+        return Report::Malformed;
     }
     let answer = multiplication::multiplication(f.sign, f.m, f.n, f.e);
     store(

@@ -6,7 +6,7 @@ use Rattle.edition.specs.declared.Edition.{Edition}
 use Rattle.number.specs.declared.Number.{Number}
 use Rattle.ending.specs.declared.answer.Answer.{Answer}
 use Rattle.ending.specs.declared.answer.Answer.TheVariants.{Done, TooBig}
-use Rattle.slots.specs.declared.outcome.Outcome.{Outcome}
+use Rattle.slots.specs.Outcome.{Outcome}
 use Rattle.slots.specs.Reach.{lacking, number_at, put_at}
 use Rattle.slots.specs.ReachLaws.{has}
 use Rattle.literals.specs.Literals.{two, row, row_of}

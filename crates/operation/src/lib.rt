@@ -5,13 +5,14 @@ ghost use Rattle.std.specs.Prelude.{◌≡◌};
 ghost use Rattle.edition.specs.Edition.{unnamed};
 ghost use Rattle.edition.specs.declared.Edition.TheVariants.{Shipped};
 ghost use Rattle.literals.specs.Operate.{operate_of, outcome};
+ghost use Rattle.slots.specs.Numbers.{number_of};
 
 use edition::Edition;
 use literals::table;
-use slots::Outcome;
+use slots::{Outcome, Report};
 
 pub fn operate(stack: &mut [u8], depth: usize, literal: u8) -> Outcome
-    ensures { operate_of unnamed stack.old depth literal ≡ (result, stack.new) }
+    ensures { operate_of unnamed stack.old depth literal ≡ (outcome (number_of result.report) result.depth, stack.new) }
 {
     let mut after = depth;
     let report = operate_in_place(stack, &mut after, literal);
@@ -22,7 +23,7 @@ pub fn operate(stack: &mut [u8], depth: usize, literal: u8) -> Outcome
 }
 
 pub fn operate_in(edition: Edition, stack: &mut [u8], depth: usize, literal: u8) -> Outcome
-    ensures { operate_of edition stack.old depth literal ≡ (result, stack.new) }
+    ensures { operate_of edition stack.old depth literal ≡ (outcome (number_of result.report) result.depth, stack.new) }
 {
     let mut after = depth;
     let report = operate_in_place_in(edition, stack, &mut after, literal);
@@ -33,8 +34,8 @@ pub fn operate_in(edition: Edition, stack: &mut [u8], depth: usize, literal: u8)
 }
 
 // The same with the depth moved where it stands: the report is all that is answered.
-pub fn operate_in_place(stack: &mut [u8], depth: &mut usize, literal: u8) -> u8
-    ensures { operate_of unnamed stack.old depth.old literal ≡ (outcome result depth.new, stack.new) }
+pub fn operate_in_place(stack: &mut [u8], depth: &mut usize, literal: u8) -> Report
+    ensures { operate_of unnamed stack.old depth.old literal ≡ (outcome (number_of result) depth.new, stack.new) }
 {
     let meant = edition::unnamed();
     match meant {
@@ -44,8 +45,8 @@ pub fn operate_in_place(stack: &mut [u8], depth: &mut usize, literal: u8) -> u8
 }
 
 // A table of its own for the edition that is meant by most: the compiler then has it inside the call.
-fn shipped(stack: &mut [u8], depth: &mut usize, literal: u8) -> u8
-    ensures { operate_of Shipped stack.old depth.old literal ≡ (outcome result depth.new, stack.new) }
+fn shipped(stack: &mut [u8], depth: &mut usize, literal: u8) -> Report
+    ensures { operate_of Shipped stack.old depth.old literal ≡ (outcome (number_of result) depth.new, stack.new) }
 {
     match literal {
         // With an entry for 0, the literal is the index of the jump table as it is.
@@ -65,8 +66,8 @@ fn shipped(stack: &mut [u8], depth: &mut usize, literal: u8) -> u8
     }
 }
 
-pub fn operate_in_place_in(edition: Edition, stack: &mut [u8], depth: &mut usize, literal: u8) -> u8
-    ensures { operate_of edition stack.old depth.old literal ≡ (outcome result depth.new, stack.new) }
+pub fn operate_in_place_in(edition: Edition, stack: &mut [u8], depth: &mut usize, literal: u8) -> Report
+    ensures { operate_of edition stack.old depth.old literal ≡ (outcome (number_of result) depth.new, stack.new) }
 {
     match literal {
         0 => literals::unknown(stack, *depth),
@@ -86,8 +87,8 @@ pub fn operate_in_place_in(edition: Edition, stack: &mut [u8], depth: &mut usize
 }
 
 // For a run in the edition that is named: no large literal is then put into either table, which would save registers for it on every call.
-pub fn run_step_in(edition: Edition, stack: &mut [u8], depth: &mut usize, literal: u8) -> u8
-    ensures { operate_of edition stack.old depth.old literal ≡ (outcome result depth.new, stack.new) }
+pub fn run_step_in(edition: Edition, stack: &mut [u8], depth: &mut usize, literal: u8) -> Report
+    ensures { operate_of edition stack.old depth.old literal ≡ (outcome (number_of result) depth.new, stack.new) }
 {
     match literal {
         0 => literals::unknown(stack, *depth),

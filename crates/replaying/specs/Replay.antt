@@ -4,7 +4,7 @@
 -- number 8."
 use Rattle.std.specs.Prelude.{ℕ, zero, suc, ◌+◌, Bool, cond, not, ◌&&◌, List, length, ◌==◌}
 use Rattle.edition.specs.declared.Edition.TheVariants.{Shipped}
-use Rattle.slots.specs.declared.outcome.Outcome.{Outcome}
+use Rattle.slots.specs.Outcome.{Outcome}
 use Rattle.slots.specs.Reports.{over_limits}
 use Rattle.slots.specs.Push.{push_of}
 use Rattle.slots.specs.View.{view_of}

@@ -2,7 +2,7 @@
 use Rattle.std.specs.Prelude.{ℕ, cond, List, eqb}
 use Rattle.edition.specs.declared.Edition.{Edition}
 use Rattle.edition.specs.declared.Edition.TheVariants.{Shipped, Mended}
-use Rattle.slots.specs.declared.outcome.Outcome.{Outcome}
+use Rattle.slots.specs.Outcome.{Outcome}
 use Rattle.literals.specs.Operate.{outcome, operate_of}
 use Rattle.calculator.specs.declared.outcome.RunOutcome.{RunOutcome}
 use Rattle.calculator.specs.Run.{run_of}

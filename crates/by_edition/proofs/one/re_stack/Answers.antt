@@ -8,11 +8,9 @@ use Rattle.by_edition.proofs.one.re_stack.Goals as goal
 
 pub returns-then-odd_top : goal.returns-then-odd_top
 unfolding row_of
-returns-then-odd_top c = top_refused _ _ 61 (λ ed x. Done (restacked x)) refl _ (sym c.odd_top.ensures ∙ c.if-odd_top.true)
+returns-then-odd_top g c = top_refused _ _ 61 (λ ed x. Done (restacked x)) refl _ (sym c.odd_top.ensures ∙ c.if-odd_top.true)
 
 pub returns : goal.returns
 unfolding row_of
-returns c =
-    let n = c in
-    let e = c in
-    top_same _ _ 61 (λ ed x. Done (restacked x)) refl _ refl _ (sym e.odd_top.ensures ∙ e.if-odd_top.false) refl ∙ n.re_stack.ensures
+returns g c =
+    top_same _ _ 61 (λ ed x. Done (restacked x)) refl _ refl _ (sym c.odd_top.ensures ∙ c.if-odd_top.false) refl ∙ c.re_stack.ensures

@@ -1,5 +1,6 @@
 -- `duplicate_in_loop` meets its contract: what the depth after it lacks is a case of the operation, and else the top is copied.
 use Rattle.std.proofs.Common.{Bool, List, ap, ap₂, arith, false, ltb, ltb-false, ltb-true, mod-eq_of_lt, not, refl, sym, true, ℕ, ◌%◌, ◌+◌, ◌-◌, ◌<◌, ◌^◌, ◌∙◌, ◌≡◌}
+use Rattle.slots.specs.Numbers.{number_of}
 use Rattle.slots.specs.Reach.{lacking, refusal_of}
 use Rattle.slots.specs.ReachLaws.{has, lacking_few, copied_nowhere, copied_at}
 use Rattle.literals.specs.Operate.{outcome}
@@ -42,7 +43,7 @@ returns c ed =
     let d = i.args.depth.now in
     let same = k.copy_top.ensures.1 ∙ copied_nowhere s d (lacks (goal.at.returns c).Else-copy_top) in
     duplicate_lacking ed s d ((d + 1) % 2 ^ 64) refl (wrapped s d (omega arith) (lacks (goal.at.returns c).Else-copy_top)) _ (c.refusal.ensures ∙ ap (λ (t : List ℕ). refusal_of t d 1) same)
-    ∙ ap (λ (t : List ℕ). (outcome c.refusal.result d, t)) (sym same)
+    ∙ ap (λ (t : List ℕ). (outcome (number_of c.refusal.result) d, t)) (sym same)
 
 pub overflow_sub-depth : goal.overflow_sub-depth
 overflow_sub-depth c = omega (arith, has _ _ _ (there c))
