@@ -5,7 +5,7 @@ use Rattle.std.proofs.Math.Seq.{drop-length}
 use borrow.Author.Tests.{lt-ltb, le-ltb, eq-eqb, ne_eqb}
 use Rattle.edition.specs.declared.Edition.{Edition}
 use Rattle.slots.specs.Outcome.{Outcome}
-use Rattle.calculator.specs.declared.outcome.RunOutcome.{RunOutcome}
+use Rattle.calculator.specs.Outcome.{RunOutcome}
 use Rattle.slots.specs.Reports.{over_limits}
 use Rattle.literals.specs.Reports.{too_many_literals}
 use Rattle.literals.specs.Operate.{operate_of}

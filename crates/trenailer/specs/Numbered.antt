@@ -4,7 +4,7 @@ use Rattle.edition.specs.declared.Edition.{Edition}
 use Rattle.edition.specs.declared.Edition.TheVariants.{Shipped, Mended}
 use Rattle.slots.specs.Outcome.{Outcome}
 use Rattle.literals.specs.Operate.{outcome, operate_of}
-use Rattle.calculator.specs.declared.outcome.RunOutcome.{RunOutcome}
+use Rattle.calculator.specs.Outcome.{RunOutcome}
 use Rattle.calculator.specs.Run.{run_of}
 use Rattle.trenailer.specs.Told.{run_outcome}
 

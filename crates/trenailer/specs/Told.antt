@@ -1,6 +1,6 @@
 -- What the calculator's answers are through the C interface, where they go out as a number and through pointers.
 use Rattle.std.specs.Prelude.{ℕ, ◌-◌, ◌*◌, ◌≡◌, cond, List, [], ◌∷◌, eqb, Float, length, take, drop}
-use Rattle.calculator.specs.declared.outcome.RunOutcome.{RunOutcome}
+use Rattle.calculator.specs.Outcome.{RunOutcome}
 use Rattle.display.specs.declared.shown.Cell.{Cell}
 use Rattle.display.specs.declared.shown.Cell.TheVariants.{Refused, Blank, Odd, Value}
 use Rattle.display.specs.Cell.{report_in, Carried, nothing, number, carried_by}
