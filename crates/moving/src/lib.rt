@@ -6,4 +6,4 @@ mod literal;
 mod pushing;
 
 pub use literal::{delete, duplicate, exchange};
-pub use pushing::push;
+pub use pushing::{push, push_in_place};

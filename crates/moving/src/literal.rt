@@ -25,7 +25,8 @@ pub fn exchange(stack: &mut [u8], depth: &usize) -> Report
     Report::Done
 }
 
-fn is_empty<const IN_LOOP: bool>(stack: &[u8], depth: usize) -> bool
+// Whether a number lacks that would be on top.
+pub(crate) fn is_empty<const IN_LOOP: bool>(stack: &[u8], depth: usize) -> bool
     ensures { result ≡ lacking stack.now depth 1 }
 {
     if IN_LOOP {
