@@ -10,8 +10,7 @@ use Rattle.slots.specs.Push.{push_of}
 use Rattle.slots.specs.View.{view_of}
 use Rattle.literals.specs.Operate.{operate_of}
 use Rattle.recording.specs.Recording.{literal_in, report_in, depth_in, top_in, first, later, records, same, zeros, not_a_recording}
-use Rattle.replaying.specs.declared.answer.Replayed.{Replayed}
-use Rattle.replaying.specs.declared.answer.Verdict.TheVariants.{Agree, Differ, Refused}
+use Rattle.replaying.specs.Answer.{Replayed, Agree, Differ, Refused}
 use Rattle.replaying.specs.declared.answer.Field.{Field}
 use Rattle.replaying.specs.declared.answer.Field.TheVariants.{Report, Depth, Top}
 

@@ -1,4 +1,6 @@
 // What a replay answers beside the bytes that it leaves.
+use slots::Report;
+
 #[derive(Clone, Copy)]
 pub enum Field {
     Report,
@@ -12,14 +14,14 @@ pub enum Verdict {
     Agree(usize),
     // The number of the first record that differs, from 0, and its first field that does.
     Differ(usize, Field),
-    // 1 or 8.
-    Refused(u8),
+    // Over the limits, or not a recording.
+    Refused(Report),
 }
 
 #[derive(Clone, Copy)]
 pub struct Replayed {
     pub verdict: Verdict,
-    // Of the step that differs, and else 0.
-    pub report: u8,
+    // Of the step that differs, and else done.
+    pub report: Report,
     pub depth: usize,
 }

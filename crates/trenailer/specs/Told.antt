@@ -5,8 +5,7 @@ use Rattle.display.specs.declared.shown.Cell.{Cell}
 use Rattle.display.specs.declared.shown.Cell.TheVariants.{Refused, Blank, Odd, Value}
 use Rattle.display.specs.Cell.{report_in, Carried, nothing, number, carried_by}
 use Rattle.slots.specs.View.{view_of}
-use Rattle.replaying.specs.declared.answer.Verdict.{Verdict}
-use Rattle.replaying.specs.declared.answer.Verdict.TheVariants.{Agree, Differ, Refused as Unread}
+use Rattle.replaying.specs.Answer.{Verdict, Agree, Differ, Refused as Unread}
 use Rattle.replaying.specs.declared.answer.Field.{Field}
 use Rattle.replaying.specs.declared.answer.Field.TheVariants.{Report, Depth, Top}
 
