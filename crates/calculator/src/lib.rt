@@ -6,7 +6,7 @@ mod running;
 
 pub use display::{Cell, cell};
 pub use edition::Edition;
-pub use moving::push;
+pub use moving::{push, push_in_place};
 pub use number::leading_zeros;
 pub use operation::{operate, operate_in, operate_in_place, operate_in_place_in};
 pub use outcome::RunOutcome;

@@ -3,12 +3,31 @@
 
 ghost use Rattle.std.specs.Prelude.{◌≡◌};
 ghost use Rattle.edition.specs.Edition.{unnamed};
+ghost use Rattle.edition.specs.Numbers.{Decodes};
 ghost use Rattle.edition.specs.declared.Edition.TheVariants.{Shipped as ShippedEdition, Mended as MendedEdition};
 
 #[derive(Clone, Copy)]
 pub enum Edition {
     Shipped,
     Mended,
+}
+
+// A number that no edition has.
+#[derive(Clone, Copy)]
+pub struct UnknownEdition;
+
+impl TryFrom<u8> for Edition {
+    type Error = UnknownEdition;
+
+    ghost try_from_gives = { Decodes };
+
+    fn try_from(number: u8) -> Result<Self, UnknownEdition> {
+        match number {
+            0 => Ok(Edition::Shipped),
+            1 => Ok(Edition::Mended),
+            _ => Err(UnknownEdition),
+        }
+    }
 }
 
 // An edition as a type: what is generic over it is made once for each, and asks which it is before it runs.

@@ -4,3 +4,4 @@ pub mod ReplayLaws
 pub mod HeldLaws
 pub mod Bounds
 pub mod Made
+pub mod Fields

@@ -1,11 +1,24 @@
 // What a replay answers beside the bytes that it leaves.
+ghost use Rattle.std.specs.Prelude.{◌≡◌};
+ghost use Rattle.replaying.specs.Fields.{field_number};
+
 use slots::Report;
 
 #[derive(Clone, Copy)]
 pub enum Field {
-    Report,
-    Depth,
-    Top,
+    Report = 1,
+    Depth = 2,
+    Top = 3,
+}
+
+impl Field {
+    // As the C interface has it.
+    #[tactic(auto, unfolding(crate::specs::Fields::field_number))]
+    pub fn number(self) -> u8
+        ensures { result ≡ field_number self }
+    {
+        self as u8
+    }
 }
 
 #[derive(Clone, Copy)]
