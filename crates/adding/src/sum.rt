@@ -6,12 +6,14 @@ ghost use Rattle.literals.specs.Operate.{outcome, operate_of};
 ghost use Rattle.addition.specs.declared.short.Short.TheVariants.{Beyond};
 ghost use Rattle.addition.specs.SignBytes.{Says};
 ghost use Rattle.adding.specs.Sum.{flips, literal_of};
+ghost use Rattle.slots.specs.Numbers.{number_of};
 
 use crate::term::term;
 use addition::Short;
 use literals::table;
 use number::Number;
 use operands::store;
+use slots::Report;
 
 // How many numbers a sum takes and leaves. A difference takes and leaves as many.
 const TAKEN: usize = table::ADD_TAKES;
@@ -22,14 +24,14 @@ const _: () = prove!(table::SUBTRACT_TAKES == TAKEN);
 
 const _: () = prove!(table::SUBTRACT_LEAVES == LEFT);
 
-pub fn add(stack: &mut [u8], depth: &mut usize) -> u8
-    ensures { operate_of Shipped stack.old depth.old 15 ≡ (outcome result depth.new, stack.new) }
+pub fn add(stack: &mut [u8], depth: &mut usize) -> Report
+    ensures { operate_of Shipped stack.old depth.old 15 ≡ (outcome (number_of result) depth.new, stack.new) }
 {
     sum(stack, depth, 0)
 }
 
-pub fn subtract(stack: &mut [u8], depth: &mut usize) -> u8
-    ensures { operate_of Shipped stack.old depth.old 3 ≡ (outcome result depth.new, stack.new) }
+pub fn subtract(stack: &mut [u8], depth: &mut usize) -> Report
+    ensures { operate_of Shipped stack.old depth.old 3 ≡ (outcome (number_of result) depth.new, stack.new) }
 {
     sum(stack, depth, 2147483648)
 }
@@ -54,9 +56,9 @@ fn short_route(stack: &[u8], depth: usize, flip: u32) -> Short
 }
 
 // What is added to the second number's word flips its sign, for a difference, or is 0.
-fn sum(stack: &mut [u8], depth: &mut usize, flip: u32) -> u8
+fn sum(stack: &mut [u8], depth: &mut usize, flip: u32) -> Report
     requires { (flip ≡ 0) ⊎ (flip ≡ 2 ^ 31) }
-    ensures { operate_of Shipped stack.old depth.old (literal_of (flips flip)) ≡ (outcome result depth.new, stack.new) }
+    ensures { operate_of Shipped stack.old depth.old (literal_of (flips flip)) ≡ (outcome (number_of result) depth.new, stack.new) }
 {
     let old = *depth;
     if slots::lacks_at(stack, depth, TAKEN) {
@@ -64,11 +66,11 @@ fn sum(stack: &mut [u8], depth: &mut usize, flip: u32) -> u8
     }
     let short = short_route(stack, old, flip);
     match short {
-        Short::Malformed => 3,
+        Short::Malformed => Report::Malformed,
         Short::Stored(byte, low) => {
             places::put_halves_at(stack, old, 1, byte, low);
             *depth = *depth - TAKEN + LEFT;
-            0
+            Report::Done
         }
         Short::Exact(word) => {
             let answer = Some(Number { b1: 145, word });
@@ -78,16 +80,16 @@ fn sum(stack: &mut [u8], depth: &mut usize, flip: u32) -> u8
     }
 }
 
-fn full_route(stack: &mut [u8], depth: &mut usize, old: usize, flip: u32) -> u8
+fn full_route(stack: &mut [u8], depth: &mut usize, old: usize, flip: u32) -> Report
     requires { ((flip ≡ 0) ⊎ (flip ≡ 2 ^ 31)) × (depth.old ≡ old) × (lacking stack.old old 2 ≡ false)
         × Says (flips flip) (number_at stack.old old 1) (number_at stack.old old 0) Beyond }
-    ensures { operate_of Shipped stack.old depth.old (literal_of (flips flip)) ≡ (outcome result depth.new, stack.new) }
+    ensures { operate_of Shipped stack.old depth.old (literal_of (flips flip)) ≡ (outcome (number_of result) depth.new, stack.new) }
 {
     let Some(b) = term(stack, old, 0, flip) else {
-        return 3;
+        return Report::Malformed;
     };
     let Some(a) = term(stack, old, 1, 0) else {
-        return 3;
+        return Report::Malformed;
     };
     let answer = addition::aligned_sum(a.x, a.e, b.x, b.e);
     store(stack, depth, old, answer, TAKEN, LEFT)

@@ -1,2 +1,1 @@
-pub mod EitherLaws
 pub mod IntLaws

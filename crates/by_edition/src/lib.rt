@@ -6,4 +6,4 @@ mod one;
 mod two;
 
 pub use one::{int, negate, re_stack, truncate};
-pub use two::{add, divide, multiply, subtract};
+pub use two::{add, multiply, subtract};

@@ -1,72 +1,43 @@
-// Subtract, multiply, divide and add.
+// Subtract, multiply and add.
 ghost use Rattle.std.specs.Prelude.{◌≡◌};
 ghost use Rattle.literals.specs.Operate.{outcome, operate_of};
+ghost use Rattle.slots.specs.Numbers.{number_of};
 
-use edition::Edition;
-use literals::table;
+use edition::Rom;
 use odd::{mend_top, odd_pair};
+use slots::Report;
 
-pub fn add(edition: Edition, stack: &mut [u8], depth: &mut usize) -> u8
-    ensures { operate_of edition stack.old depth.old 15 ≡ (outcome result depth.new, stack.new) }
+pub fn add<E: Rom>(stack: &mut [u8], depth: &mut usize) -> Report
+    ensures { operate_of E.EDITION stack.old depth.old 15 ≡ (outcome (number_of result) depth.new, stack.new) }
 {
-    if odd_pair(edition, stack, *depth) {
-        return 3;
+    if odd_pair::<E>(stack, *depth) {
+        return Report::Malformed;
     }
     let report = adding::add(stack, depth);
-    if report != 0 {
-        return report;
+    if report.is_done() {
+        mend_top::<E>(stack, *depth);
     }
-    mend_top(edition, stack, *depth);
-    0
+    report
 }
 
-pub fn subtract(edition: Edition, stack: &mut [u8], depth: &mut usize) -> u8
-    ensures { operate_of edition stack.old depth.old 3 ≡ (outcome result depth.new, stack.new) }
+pub fn subtract<E: Rom>(stack: &mut [u8], depth: &mut usize) -> Report
+    ensures { operate_of E.EDITION stack.old depth.old 3 ≡ (outcome (number_of result) depth.new, stack.new) }
 {
-    if odd_pair(edition, stack, *depth) {
-        return 3;
+    if odd_pair::<E>(stack, *depth) {
+        return Report::Malformed;
     }
     let report = adding::subtract(stack, depth);
-    if report != 0 {
-        return report;
+    if report.is_done() {
+        mend_top::<E>(stack, *depth);
     }
-    mend_top(edition, stack, *depth);
-    0
+    report
 }
 
-pub fn multiply(edition: Edition, stack: &mut [u8], depth: &mut usize) -> u8
-    ensures { operate_of edition stack.old depth.old 4 ≡ (outcome result depth.new, stack.new) }
+pub fn multiply<E: Rom>(stack: &mut [u8], depth: &mut usize) -> Report
+    ensures { operate_of E.EDITION stack.old depth.old 4 ≡ (outcome (number_of result) depth.new, stack.new) }
 {
-    if odd_pair(edition, stack, *depth) {
-        return 3;
+    if odd_pair::<E>(stack, *depth) {
+        return Report::Malformed;
     }
     multiplying::multiply(stack, depth)
-}
-
-// By the operands' own quotient: what is left of it decides how the mended edition rounds.
-pub fn divide(edition: Edition, stack: &mut [u8], depth: &mut usize) -> u8
-    ensures { operate_of edition stack.old depth.old 5 ≡ (outcome result depth.new, stack.new) }
-{
-    let old = *depth;
-    if odd_pair(edition, stack, old) {
-        return 3;
-    }
-    if slots::lacks(stack, old, table::DIVIDE_TAKES) {
-        return slots::refusal(stack, old, table::DIVIDE_TAKES);
-    }
-    let Some(a) = operands::operand(stack, old, 1) else {
-        return 3;
-    };
-    let Some(b) = operands::operand(stack, old, 0) else {
-        return 3;
-    };
-    let answer = division::division(edition, a.sign, a.m, a.e, b.sign, b.m, b.e);
-    match answer {
-        Some(n) => {
-            places::put_at(stack, old, 1, n.b1, n.word);
-            *depth = old - table::DIVIDE_TAKES + table::DIVIDE_LEAVES;
-            0
-        }
-        None => 6,
-    }
 }

@@ -3,7 +3,7 @@
 -- them. Report 0 has the list's length as position."
 use Rattle.std.specs.Prelude.{ℕ, ◌+◌, List, [], ◌∷◌, cond, ◌||◌, eqb}
 use Rattle.edition.specs.declared.Edition.{Edition}
-use Rattle.calculator.specs.declared.outcome.RunOutcome.{RunOutcome}
+use Rattle.calculator.specs.Outcome.{RunOutcome}
 use Rattle.slots.specs.Reports.{over_limits}
 use Rattle.literals.specs.Reports.{too_many_literals}
 use Rattle.literals.specs.Operate.{operate_of}

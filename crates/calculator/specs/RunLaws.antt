@@ -4,8 +4,8 @@ use Rattle.std.proofs.Common.{add-one, drop-cons}
 use Rattle.std.proofs.Math.Seq.{drop-length}
 use borrow.Author.Tests.{lt-ltb, le-ltb, eq-eqb, ne_eqb}
 use Rattle.edition.specs.declared.Edition.{Edition}
-use Rattle.slots.specs.declared.outcome.Outcome.{Outcome}
-use Rattle.calculator.specs.declared.outcome.RunOutcome.{RunOutcome}
+use Rattle.slots.specs.Outcome.{Outcome}
+use Rattle.calculator.specs.Outcome.{RunOutcome}
 use Rattle.slots.specs.Reports.{over_limits}
 use Rattle.literals.specs.Reports.{too_many_literals}
 use Rattle.literals.specs.Operate.{operate_of}

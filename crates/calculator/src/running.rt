@@ -1,60 +1,61 @@
 // A run: a list of literals, done in turn until one is refused.
 ghost use Rattle.std.specs.Prelude.{◌≡◌};
 ghost use Rattle.edition.specs.Edition.{unnamed};
-ghost use Rattle.edition.specs.declared.Edition.TheVariants.{Shipped};
+ghost use Rattle.slots.specs.Numbers.{number_of};
 ghost use Rattle.calculator.specs.Run.{run_of};
+ghost use Rattle.calculator.specs.Outcome.{run_outcome};
 
-use crate::named::run_in;
-use crate::outcome::{RunOutcome, Stop};
-use edition::Edition;
+use crate::outcome::RunOutcome;
+use edition::{Edition, Mended, Rom, Shipped, Unnamed};
+use slots::Report;
 
-pub fn run(stack: &mut [u8], depth: usize, literals: &[u8]) -> RunOutcome
-    ensures { run_of unnamed stack.old depth literals.now ≡ (result, stack.new) }
+// The most literals that a run takes.
+const LITERALS_LIMIT: usize = 60000;
+
+// Report 1 is checked once, even for an empty list.
+#[inline(always)]
+fn run_as<E: Rom>(stack: &mut [u8], depth: usize, literals: &[u8]) -> RunOutcome
+    ensures { run_of E.EDITION stack.old depth literals.now
+        ≡ (run_outcome (number_of result.report) result.position result.depth, stack.new) }
 {
-    let meant = edition::unnamed();
-    match meant {
-        Edition::Shipped => run_shipped(stack, depth, literals),
-        Edition::Mended => run_in(meant, stack, depth, literals),
+    if slots::over_limits(stack, depth) || LITERALS_LIMIT < literals.len() {
+        return RunOutcome {
+            report: Report::OverLimits,
+            position: 0,
+            depth,
+        };
+    }
+    let mut after = depth;
+    for (position, literal) in literals.iter().enumerate() {
+        let report = operation::operate_as::<E, true>(stack, &mut after, *literal);
+        if !report.is_done() {
+            return RunOutcome {
+                report,
+                position,
+                depth: after,
+            };
+        }
+    }
+    RunOutcome {
+        report: Report::Done,
+        position: literals.len(),
+        depth: after,
     }
 }
 
-// A loop of its own for the edition that is meant by most, called from one place: the compiler then has it inside the call. Report 1 is checked once, even
-// for an empty list.
-fn run_shipped(stack: &mut [u8], depth: usize, literals: &[u8]) -> RunOutcome
-    ensures { run_of Shipped stack.old depth literals.now ≡ (result, stack.new) }
+pub fn run(stack: &mut [u8], depth: usize, literals: &[u8]) -> RunOutcome
+    ensures { run_of unnamed stack.old depth literals.now
+        ≡ (run_outcome (number_of result.report) result.position result.depth, stack.new) }
 {
-    if slots::over_limits(stack, depth) {
-        return RunOutcome {
-            report: 1,
-            position: 0,
-            depth,
-        };
-    }
-    if 60000 < literals.len() {
-        return RunOutcome {
-            report: 1,
-            position: 0,
-            depth,
-        };
-    }
-    let mut current = depth;
-    let mut position = 0;
-    let stop = loop {
-        if position == literals.len() {
-            break Stop {
-                report: 0,
-                position,
-            };
-        }
-        let report = stepping::run_step(stack, &mut current, literals[position]);
-        if report != 0 {
-            break Stop { report, position };
-        }
-        position += 1;
-    };
-    RunOutcome {
-        report: stop.report,
-        position: stop.position,
-        depth: current,
+    run_as::<Unnamed>(stack, depth, literals)
+}
+
+pub fn run_in(edition: Edition, stack: &mut [u8], depth: usize, literals: &[u8]) -> RunOutcome
+    ensures { run_of edition stack.old depth literals.now
+        ≡ (run_outcome (number_of result.report) result.position result.depth, stack.new) }
+{
+    match edition {
+        Edition::Shipped => run_as::<Shipped>(stack, depth, literals),
+        Edition::Mended => run_as::<Mended>(stack, depth, literals),
     }
 }

@@ -7,8 +7,8 @@ use mathlib.Core.List.{List, [], ◌∷◌}
 use Rattle.std.proofs.Common.{arith}
 use borrow.Author.Tests.{ltb-false, eqb-false}
 use Rattle.edition.specs.declared.Edition.{Edition}
-use Rattle.slots.specs.declared.outcome.Outcome.{Outcome}
-use Rattle.calculator.specs.declared.outcome.RunOutcome.{RunOutcome}
+use Rattle.slots.specs.Outcome.{Outcome}
+use Rattle.calculator.specs.Outcome.{RunOutcome}
 use Rattle.slots.specs.Slots.{put_slot}
 use Rattle.slots.specs.Reports.{over_limits, push_report}
 use Rattle.slots.specs.Push.{settled, push_of}

@@ -4,7 +4,7 @@ use Rattle.std.specs.Prelude.{ℕ, suc, ◌+◌, ◌<◌, ◌≡◌, refl, Bool,
 use Rattle.std.proofs.Common.{sym, ◌∙◌, ap, inl, inr, arith, eqb-true}
 use Rattle.std.proofs.lemmas.Bool.{eqb-false}
 use Rattle.edition.specs.declared.Edition.{Edition}
-use Rattle.calculator.specs.declared.outcome.RunOutcome.{RunOutcome}
+use Rattle.calculator.specs.Outcome.{RunOutcome}
 use Rattle.slots.specs.Reports.{over_limits}
 use Rattle.literals.specs.Reports.{too_many_literals, report_of}
 use Rattle.literals.specs.Operate.{operate_of}

@@ -11,7 +11,7 @@ use Rattle.number.specs.Restack.{restacked, CountsAsZero}
 use Rattle.division.specs.Division.{quotient_of}
 use Rattle.division.specs.Demand3.{nearest, added, exact, Digits, Result, Demand3}
 use Rattle.division.proofs.Demand3Laws.{demand3}
-use Rattle.slots.specs.declared.outcome.Outcome.{Outcome}
+use Rattle.slots.specs.Outcome.{Outcome}
 use Rattle.slots.specs.Slots.{number_in, lower, top}
 use Rattle.literals.specs.Literals.{row_of, operation_of, takes}
 use Rattle.literals.specs.Reports.{is_too_big, too_big}

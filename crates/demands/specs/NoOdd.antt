@@ -13,7 +13,7 @@ use Rattle.slots.specs.Reports.{over_limits}
 use Rattle.literals.specs.Literals.{Operation, exchange, delete, duplicate, one, two, unknown, operation_of}
 use Rattle.literals.specs.Reports.{not_in_table, malformed_in, malformed_operand, too_many_literals, report_of}
 use Rattle.literals.specs.Operate.{operate_of}
-use Rattle.calculator.specs.declared.outcome.RunOutcome.{RunOutcome}
+use Rattle.calculator.specs.Outcome.{RunOutcome}
 use Rattle.calculator.specs.Run.{go_on, run_of}
 use Rattle.slots.specs.SlotFacts.{same_slot, number_slot, number_back}
 use Rattle.demands.specs.Counts.{takes_of, leaves_of, takes_are, leaves_are}

@@ -10,7 +10,7 @@ use Rattle.multiplication.specs.Multiplication.{sign_of_two, taken, product_of}
 use Rattle.multiplication.specs.Rounding.{Overflows, Result, Products}
 use Rattle.multiplication.specs.RoundingLaws.{products}
 use Rattle.multiplication.specs.Commutes.{product_commutes}
-use Rattle.slots.specs.declared.outcome.Outcome.{Outcome}
+use Rattle.slots.specs.Outcome.{Outcome}
 use Rattle.slots.specs.Slots.{slot, number_in, bytes_of, lower, top}
 use Rattle.literals.specs.Literals.{row_of, takes}
 use Rattle.literals.specs.Operate.{operate_of}

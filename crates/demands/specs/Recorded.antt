@@ -1,13 +1,12 @@
 -- A5, the recording that this machine makes of a count: replayed on the same stack, its records all agree, and the replay leaves what the count left.
 use Rattle.std.specs.Prelude.{ℕ, suc, ◌*◌, ◌≤◌, ◌≡◌, refl, false, List, [], ◌∷◌, ◌++◌, length}
 use Rattle.std.proofs.Common.{sym, ◌∙◌, ap, arith, length-append, take_at, drop_at}
-use Rattle.slots.specs.declared.outcome.Outcome.{Outcome}
+use Rattle.slots.specs.Outcome.{Outcome}
 use Rattle.slots.specs.Reports.{over_limits}
 use Rattle.slots.specs.LimitLaws.{within}
 use Rattle.recording.specs.Recording.{records, zeros, stray, not_a_recording}
 use Rattle.recording.specs.RecordingLaws.{same_refl, by_rest}
-use Rattle.replaying.specs.declared.answer.Replayed.{Replayed}
-use Rattle.replaying.specs.declared.answer.Verdict.TheVariants.{Agree}
+use Rattle.replaying.specs.Answer.{Replayed, Agree}
 use Rattle.replaying.specs.Replay.{step_of, replay_of}
 use Rattle.replaying.specs.Made.{Step, done_by, record_of, recording_of}
 use Rattle.demands.specs.ReplayTurns.{Agrees}

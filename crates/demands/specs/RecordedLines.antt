@@ -7,7 +7,7 @@ use Rattle.sheet.specs.declared.meaning.Line.{Line}
 use Rattle.sheet.specs.declared.meaning.Line.TheVariants.{Nothing, Push, Literal, Named, Unreadable}
 use Rattle.words.specs.Blanks.{told_of}
 use Rattle.sheet.specs.Line.{line_of}
-use Rattle.replaying.specs.declared.answer.Verdict.TheVariants.{Agree}
+use Rattle.replaying.specs.Answer.{Agree}
 use Rattle.replaying.specs.Replay.{replay_of}
 use Rattle.replaying.specs.Made.{Step, recording_of}
 use Rattle.reasons.specs.Complaint.{why_not, is_taken, no_zero}

@@ -8,7 +8,7 @@ use mathlib.Core.List.{List}
 use Rattle.std.proofs.Math.Dec.{eqb}
 use Rattle.std.proofs.lemmas.Bool.{eqb-false}
 use Rattle.edition.specs.declared.Edition.TheVariants.{Shipped}
-use Rattle.slots.specs.declared.outcome.Outcome.{Outcome}
+use Rattle.slots.specs.Outcome.{Outcome}
 use Rattle.slots.specs.SlotLaws.{length_put_slot}
 use Rattle.slots.specs.Reports.{over_limits, push_report}
 use Rattle.slots.specs.LimitLaws.{within, within_of}

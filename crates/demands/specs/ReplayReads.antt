@@ -5,7 +5,7 @@ use Rattle.std.proofs.Common.{arith}
 use Rattle.edition.specs.declared.Edition.TheVariants.{Shipped}
 use Rattle.slots.specs.Reports.{over_limits}
 use Rattle.recording.specs.Recording.{literal_in, top_in, first, later, records, not_a_recording}
-use Rattle.replaying.specs.declared.answer.Replayed.{Replayed}
+use Rattle.replaying.specs.Answer.{Replayed}
 use Rattle.replaying.specs.Replay.{is_push, step_of, top_of, report_differs, depth_differs, top_differs, go_on, replay_of}
 use Rattle.demands.specs.Agreement.{Agree, limits_agree}
 use Rattle.demands.specs.Alike.{Alike, choice}

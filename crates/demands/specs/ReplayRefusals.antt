@@ -3,8 +3,7 @@ use Rattle.std.specs.Prelude.{ℕ, ◌≡◌, refl, ◌↔◌, ◌⊎◌, Bool, 
 use Rattle.std.proofs.Common.{ap, inl, inr, ⊎_elim, arith}
 use Rattle.slots.specs.Reports.{over_limits}
 use Rattle.recording.specs.Recording.{not_a_recording}
-use Rattle.replaying.specs.declared.answer.Replayed.{Replayed}
-use Rattle.replaying.specs.declared.answer.Verdict.TheVariants.{Refused}
+use Rattle.replaying.specs.Answer.{Replayed, Refused}
 use Rattle.replaying.specs.Replay.{refused, replay_of}
 use Rattle.replaying.proofs.ReplayLaws.{replay_over, replay_refused}
 use Rattle.demands.specs.Replays.{never_refused}

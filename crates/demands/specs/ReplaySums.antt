@@ -9,9 +9,7 @@ use Rattle.literals.specs.Literals.{row_of, operation_of, takes, leaves}
 use Rattle.literals.specs.Reports.{not_in_table, no_room_for, malformed_operand, too_big, report_of}
 use Rattle.literals.specs.Operate.{bytes_after, operate_of}
 use Rattle.recording.specs.Recording.{zeros, same, stray, not_a_recording}
-use Rattle.replaying.specs.declared.answer.Replayed.{Replayed}
-use Rattle.replaying.specs.declared.answer.Verdict.{Verdict}
-use Rattle.replaying.specs.declared.answer.Verdict.TheVariants.{Agree, Differ, Refused}
+use Rattle.replaying.specs.Answer.{Replayed, Verdict, Agree, Differ, Refused}
 use Rattle.replaying.specs.declared.answer.Field.TheVariants.{Report, Depth, Top}
 use Rattle.replaying.specs.Replay.{step_of, top_of, top_differs, go_on, replay_of}
 use Rattle.replaying.specs.Made.{record_with}

@@ -8,7 +8,7 @@ use Rattle.std.proofs.Math.Bool.{true, false, false≢true, not}
 use Rattle.std.proofs.Math.Dec.{eqb}
 use borrow.Author.Tests.{eq-eqb, ne_eqb, eqb-true, eqb-false}
 use Rattle.edition.specs.declared.Edition.TheVariants.{Shipped}
-use Rattle.slots.specs.declared.outcome.Outcome.{Outcome}
+use Rattle.slots.specs.Outcome.{Outcome}
 use Rattle.recording.specs.Recording.{literal_in, report_in, depth_in, top_in, first, later, same}
 use Rattle.recording.specs.RecordingLaws.{same_refl, same_true, same_by}
 use Rattle.replaying.specs.declared.answer.Field.{Field}

@@ -4,8 +4,7 @@ use Rattle.std.specs.Prelude.{ℕ, zero, suc, ◌+◌, ◌-◌, ◌*◌, ◌<◌
 use Rattle.std.proofs.Common.{sym, ◌∙◌, ap, inl, inr, zero-add, add-zero, arith, drop-drop}
 use Rattle.slots.specs.Reports.{over_limits}
 use Rattle.recording.specs.Recording.{first, later, records, not_a_recording}
-use Rattle.replaying.specs.declared.answer.Replayed.{Replayed}
-use Rattle.replaying.specs.declared.answer.Verdict.TheVariants.{Agree, Differ, Refused}
+use Rattle.replaying.specs.Answer.{Replayed, Agree, Differ, Refused}
 use Rattle.replaying.specs.declared.answer.Field.{Field}
 use Rattle.replaying.specs.Replay.{step_of, differs, go_on, replay_of}
 use Rattle.demands.specs.ReplayTurns.{Agrees, Differs, Found, agreeing, differing, found, goes_on, stops}

@@ -16,7 +16,7 @@ use Rattle.division.specs.Division.{full_quotient, restacked_quotient, quotient_
 use Rattle.multiplication.specs.Multiplication.{full_product, restacked_product, product_of}
 use Rattle.addition.specs.Addition.{aligned, ended_sum, aligned_sum, full_route, short_route, sum_of, difference_of}
 use Rattle.truncation.specs.Int.{int_of}
-use Rattle.slots.specs.declared.outcome.Outcome.{Outcome}
+use Rattle.slots.specs.Outcome.{Outcome}
 use Rattle.slots.specs.Slots.{slot, number_in, bytes_of, put_slot}
 use Rattle.slots.specs.Reports.{over_limits, no_room, not_a_number, push_report}
 use Rattle.slots.specs.Push.{settled, push_of}

@@ -2,25 +2,29 @@
 ghost use Rattle.std.specs.Prelude.{◌≡◌};
 ghost use Rattle.number.specs.Operand.{Unpacked};
 ghost use Rattle.slots.specs.Reach.{number_at};
-ghost use Rattle.edition.specs.declared.Edition.TheVariants.{Shipped};
 ghost use Rattle.literals.specs.Operate.{outcome, operate_of};
 ghost use Rattle.dividing.specs.Quotient.{First};
+ghost use Rattle.slots.specs.Numbers.{number_of};
 
-use edition::Edition;
+use edition::Rom;
 use literals::table;
 use number::Operand;
 use operands::{operand, store};
+use slots::Report;
 
 // A dividend that counts as zero goes the same way apart, so that any other is not asked about again.
-pub fn divide(stack: &mut [u8], depth: &mut usize) -> u8
-    ensures { operate_of Shipped stack.old depth.old 5 ≡ (outcome result depth.new, stack.new) }
+pub fn divide<E: Rom>(stack: &mut [u8], depth: &mut usize) -> Report
+    ensures { operate_of E.EDITION stack.old depth.old 5 ≡ (outcome (number_of result) depth.new, stack.new) }
 {
     let old = *depth;
+    if odd::odd_pair::<E>(stack, old) {
+        return Report::Malformed;
+    }
     if slots::lacks_at(stack, depth, table::DIVIDE_TAKES) {
         return slots::refusal(stack, old, table::DIVIDE_TAKES);
     }
     let Some(a) = operand(stack, old, 1) else {
-        return 3;
+        return Report::Malformed;
     };
     if a.e == 0 {
         let zero = Operand {
@@ -28,15 +32,15 @@ pub fn divide(stack: &mut [u8], depth: &mut usize) -> u8
             m: 0,
             e: 0,
         };
-        return divided(stack, depth, old, zero);
+        return divided::<E>(stack, depth, old, zero);
     }
-    divided(stack, depth, old, a)
+    divided::<E>(stack, depth, old, a)
 }
 
 // With the first number re-stacked. A full divisor and a short one go on apart: the compiler then has each one's exponent where it is used.
-fn divided(stack: &mut [u8], depth: &mut usize, old: usize, a: Operand) -> u8
-    requires { First stack.old depth.old old a }
-    ensures { operate_of Shipped stack.old depth.old 5 ≡ (outcome result depth.new, stack.new) }
+fn divided<E: Rom>(stack: &mut [u8], depth: &mut usize, old: usize, a: Operand) -> Report
+    requires { First E.EDITION stack.old depth.old old a }
+    ensures { operate_of E.EDITION stack.old depth.old 5 ≡ (outcome (number_of result) depth.new, stack.new) }
 {
     let b1 = places::b1_at(stack, old, 0);
     if b1 != 0 {
@@ -46,23 +50,23 @@ fn divided(stack: &mut [u8], depth: &mut usize, old: usize, a: Operand) -> u8
             m: word,
             e: b1 as u32,
         };
-        return quotient(stack, depth, old, a, b);
+        return quotient::<E>(stack, depth, old, a, b);
     }
     let Some(b) = number::operand_of(
         places::b2_at(stack, old, 0) as u32,
         places::low_at(stack, old, 0),
     ) else {
-        return 3;
+        return Report::Malformed;
     };
-    quotient(stack, depth, old, a, b)
+    quotient::<E>(stack, depth, old, a, b)
 }
 
 // With both re-stacked.
-fn quotient(stack: &mut [u8], depth: &mut usize, old: usize, a: Operand, b: Operand) -> u8
-    requires { First stack.old depth.old old a × Unpacked (number_at stack.old old 0) b }
-    ensures { operate_of Shipped stack.old depth.old 5 ≡ (outcome result depth.new, stack.new) }
+fn quotient<E: Rom>(stack: &mut [u8], depth: &mut usize, old: usize, a: Operand, b: Operand) -> Report
+    requires { First E.EDITION stack.old depth.old old a × Unpacked (number_at stack.old old 0) b }
+    ensures { operate_of E.EDITION stack.old depth.old 5 ≡ (outcome (number_of result) depth.new, stack.new) }
 {
-    let answer = division::division(Edition::Shipped, a.sign, a.m, a.e, b.sign, b.m, b.e);
+    let answer = division::division(E::EDITION, a.sign, a.m, a.e, b.sign, b.m, b.e);
     store(
         stack,
         depth,

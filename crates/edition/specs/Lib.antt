@@ -1,1 +1,2 @@
 pub mod Edition
+pub mod Numbers

@@ -3,7 +3,7 @@ use Rattle.std.specs.Prelude.{ℕ, ◌≡◌, true, false, cond, List, eqb, leng
 use Rattle.edition.specs.declared.Edition.TheVariants.{Shipped}
 use Rattle.text.specs.Put.{Text, puts_of}
 use Rattle.number.specs.declared.Number.{Number}
-use Rattle.slots.specs.declared.outcome.Outcome.{Outcome}
+use Rattle.slots.specs.Outcome.{Outcome}
 use Rattle.slots.specs.Slots.{bytes_of}
 use Rattle.slots.specs.Push.{push_of}
 use Rattle.slots.specs.View.{view_of}

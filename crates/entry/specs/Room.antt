@@ -7,7 +7,7 @@ use mathlib.Core.List.{List, [], ◌++◌}
 use Rattle.text.specs.Ascii.{ascii}
 use Rattle.text.specs.Put.{Text, before, puts_of, puts_after, puts_whole}
 use Rattle.number.specs.declared.Number.{Number}
-use Rattle.slots.specs.declared.outcome.Outcome.{Outcome}
+use Rattle.slots.specs.Outcome.{Outcome}
 use Rattle.slots.specs.Slots.{bytes_of}
 use Rattle.words.specs.Blanks.{told_of, trimmed}
 use Rattle.sheet.specs.Line.{line_of}

@@ -3,7 +3,7 @@ use Rattle.std.specs.Prelude.{ℕ, suc, ◌+◌, ◌-◌, ◌≡◌, true, List}
 use Rattle.std.proofs.Math.Path.{ap}
 use borrow.Author.Tests.{ne_eqb}
 use Rattle.edition.specs.declared.Edition.{Edition}
-use Rattle.slots.specs.declared.outcome.Outcome.{Outcome}
+use Rattle.slots.specs.Outcome.{Outcome}
 use Rattle.slots.specs.Reports.{over_limits}
 use Rattle.slots.specs.Push.{settled}
 use Rattle.slots.proofs.PushLaws.{settled_refused}

@@ -3,9 +3,7 @@
 #![tactic(auto)]
 
 mod literal;
-mod looped;
 mod pushing;
 
 pub use literal::{delete, duplicate, exchange};
-pub use looped::{delete_in_loop, duplicate_in_loop};
-pub use pushing::push;
+pub use pushing::{push, push_in_place};

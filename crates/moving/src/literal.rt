@@ -1,12 +1,16 @@
-// Exchange, delete and duplicate, which are the same in either edition.
-ghost use Rattle.std.specs.Prelude.{◌≡◌};
+// Exchange, delete and duplicate, which are the same in either edition. Delete and duplicate are made twice, for a call and for a loop over one stack: in a loop
+// what a stack has is asked by one comparison, with a quotient that the compiler computes once.
+ghost use Rattle.std.specs.Prelude.{◌≡◌, ◌+◌, not};
 ghost use Rattle.edition.specs.declared.Edition.{Edition};
 ghost use Rattle.literals.specs.Operate.{outcome, operate_of};
+ghost use Rattle.slots.specs.Numbers.{number_of};
+ghost use Rattle.slots.specs.Reach.{lacking, copied_of};
 
 use literals::table;
+use slots::Report;
 
-pub fn exchange(stack: &mut [u8], depth: &usize) -> u8
-    ensures { (ed : Edition) → operate_of ed stack.old depth.now 1 ≡ (outcome result depth.now, stack.new) }
+pub fn exchange(stack: &mut [u8], depth: &usize) -> Report
+    ensures { (ed : Edition) → operate_of ed stack.old depth.now 1 ≡ (outcome (number_of result) depth.now, stack.new) }
 {
     let old = *depth;
     if slots::lacks_at(stack, depth, table::EXCHANGE_TAKES) {
@@ -18,32 +22,55 @@ pub fn exchange(stack: &mut [u8], depth: &usize) -> u8
     let top = places::word_at(stack, old, 0);
     places::put_at(stack, old, 1, top1, top);
     places::put_at(stack, old, 0, lower1, lower);
-    0
+    Report::Done
 }
 
-pub fn delete(stack: &[u8], depth: &mut usize) -> u8
-    ensures { (ed : Edition) → operate_of ed stack.now depth.old 2 ≡ (outcome result depth.new, stack.now) }
+// Whether a number lacks that would be on top.
+pub(crate) fn is_empty<const IN_LOOP: bool>(stack: &[u8], depth: usize) -> bool
+    ensures { result ≡ lacking stack.now depth 1 }
+{
+    if IN_LOOP {
+        return slots::lacks_top(stack, depth);
+    }
+    slots::lacks(stack, depth, table::DELETE_TAKES)
+}
+
+pub fn delete<const IN_LOOP: bool>(stack: &[u8], depth: &mut usize) -> Report
+    ensures { (ed : Edition) → operate_of ed stack.now depth.old 2 ≡ (outcome (number_of result) depth.new, stack.now) }
 {
     let old = *depth;
-    if slots::lacks(stack, old, table::DELETE_TAKES) {
+    if is_empty::<IN_LOOP>(stack, old) {
         return slots::refusal(stack, old, table::DELETE_TAKES);
     }
     *depth = old - table::DELETE_TAKES + table::DELETE_LEAVES;
-    0
+    Report::Done
 }
 
-// The stack must have what the literal leaves: that is asked of the depth after it, which wraps to 0 where it would be too large for any stack.
-pub fn duplicate(stack: &mut [u8], depth: &mut usize) -> u8
-    ensures { (ed : Edition) → operate_of ed stack.old depth.old 49 ≡ (outcome result depth.new, stack.new) }
+// Whether there was a top, and room. The stack must have what the literal leaves: in a call that is asked of the depth after it, which wraps to 0 where it would
+// be too large for any stack.
+fn copies<const IN_LOOP: bool>(stack: &mut [u8], depth: usize) -> bool
+    ensures { (not result ≡ lacking stack.old (depth + 1) 2) × (stack.new ≡ copied_of stack.old depth) }
 {
-    let old = *depth;
-    let after = std::num::wrapping_add_usize(old, table::DUPLICATE_LEAVES - table::DUPLICATE_TAKES);
+    if IN_LOOP {
+        return places::copy_top(stack, depth);
+    }
+    let after = depth.wrapping_add(table::DUPLICATE_LEAVES - table::DUPLICATE_TAKES);
     if slots::lacks(stack, after, table::DUPLICATE_LEAVES) {
-        return slots::refusal(stack, old, table::DUPLICATE_TAKES);
+        return false;
     }
     let b1 = places::b1_at(stack, after, 1);
     let word = places::word_at(stack, after, 1);
     places::put_at(stack, after, 0, b1, word);
-    *depth = after;
-    0
+    true
+}
+
+pub fn duplicate<const IN_LOOP: bool>(stack: &mut [u8], depth: &mut usize) -> Report
+    ensures { (ed : Edition) → operate_of ed stack.old depth.old 49 ≡ (outcome (number_of result) depth.new, stack.new) }
+{
+    let old = *depth;
+    if copies::<IN_LOOP>(stack, old) {
+        *depth = old - table::DUPLICATE_TAKES + table::DUPLICATE_LEAVES;
+        return Report::Done;
+    }
+    slots::refusal(stack, old, table::DUPLICATE_TAKES)
 }

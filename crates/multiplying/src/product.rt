@@ -6,12 +6,14 @@ ghost use Rattle.edition.specs.declared.Edition.TheVariants.{Shipped};
 ghost use Rattle.literals.specs.Operate.{outcome, operate_of};
 ghost use Rattle.multiplication.specs.Multiplication.{both_short};
 ghost use Rattle.multiplying.specs.Product.{Pair, Factored};
+ghost use Rattle.slots.specs.Numbers.{number_of};
 
 use literals::table;
 use operands::store;
+use slots::Report;
 
-pub fn multiply(stack: &mut [u8], depth: &mut usize) -> u8
-    ensures { operate_of Shipped stack.old depth.old 4 ≡ (outcome result depth.new, stack.new) }
+pub fn multiply(stack: &mut [u8], depth: &mut usize) -> Report
+    ensures { operate_of Shipped stack.old depth.old 4 ≡ (outcome (number_of result) depth.new, stack.new) }
 {
     let old = *depth;
     if slots::lacks_at(stack, depth, table::MULTIPLY_TAKES) {
@@ -36,9 +38,9 @@ fn both_short(stack: &[u8], depth: usize) -> bool
 }
 
 // Of two short numbers, or odd ones. Neither is re-stacked.
-fn short_route(stack: &mut [u8], depth: &mut usize, old: usize) -> u8
+fn short_route(stack: &mut [u8], depth: &mut usize, old: usize) -> Report
     requires { Pair stack.old depth.old old true }
-    ensures { operate_of Shipped stack.old depth.old 4 ≡ (outcome result depth.new, stack.new) }
+    ensures { operate_of Shipped stack.old depth.old 4 ≡ (outcome (number_of result) depth.new, stack.new) }
 {
     let Some(product) = multiplication::short_product(
         places::b2_at(stack, old, 1) as u32,
@@ -46,7 +48,7 @@ fn short_route(stack: &mut [u8], depth: &mut usize, old: usize) -> u8
         places::b2_at(stack, old, 0) as u32,
         places::low_at(stack, old, 0),
     ) else {
-        return 3;
+        return Report::Malformed;
     };
     store(
         stack,
@@ -119,12 +121,12 @@ fn factored(stack: &[u8], depth: usize) -> Option<Factors>
 }
 
 // Where one is full.
-fn full_route(stack: &mut [u8], depth: &mut usize, old: usize) -> u8
+fn full_route(stack: &mut [u8], depth: &mut usize, old: usize) -> Report
     requires { Pair stack.old depth.old old false }
-    ensures { operate_of Shipped stack.old depth.old 4 ≡ (outcome result depth.new, stack.new) }
+    ensures { operate_of Shipped stack.old depth.old 4 ≡ (outcome (number_of result) depth.new, stack.new) }
 {
     let Some(f) = factored(stack, old) else {
-        return 3;
+        return Report::Malformed;
     };
     let answer = multiplication::multiplication(f.sign, f.m, f.n, f.e);
     store(

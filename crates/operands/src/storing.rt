@@ -1,8 +1,10 @@
 // The answer of two numbers, in the first one's slot.
 ghost use Rattle.std.specs.Prelude.{◌≡◌};
 ghost use Rattle.operands.specs.Stored.{stored_at};
+ghost use Rattle.slots.specs.Numbers.{number_of};
 
 use number::Number;
+use slots::Report;
 
 // The depth is read again where it is written: one that is kept costs a register for the whole operation.
 pub fn store(
@@ -12,8 +14,8 @@ pub fn store(
     answer: Option<Number>,
     taken: usize,
     left: usize,
-) -> u8
-    ensures { stored_at stack.old depth.old old answer taken left ≡ (result, depth.new, stack.new) }
+) -> Report
+    ensures { stored_at stack.old depth.old old answer taken left ≡ (number_of result, depth.new, stack.new) }
 {
     match answer {
         Some(n) => {
@@ -22,8 +24,8 @@ pub fn store(
                 std::num::wrapping_sub_usize(*depth, taken),
                 left,
             );
-            0
+            Report::Done
         }
-        None => 6,
+        None => Report::TooBig,
     }
 }

@@ -3,15 +3,64 @@
 
 ghost use Rattle.std.specs.Prelude.{◌≡◌};
 ghost use Rattle.edition.specs.Edition.{unnamed};
-ghost use Rattle.edition.specs.declared.Edition.TheVariants.{Shipped};
+ghost use Rattle.slots.specs.Numbers.{number_of};
 ghost use Rattle.literals.specs.Operate.{operate_of, outcome};
 
-use edition::Edition;
+use edition::{Edition, Mended, Rom, Shipped, Unnamed};
 use literals::table;
-use slots::Outcome;
+use slots::{Outcome, Report};
+
+// The table of literals in the edition E, for a call or for a loop over one stack. It is put into each place that calls it, so that a call and each loop have a
+// jump table of their own.
+#[inline(always)]
+pub fn operate_as<E: Rom, const IN_LOOP: bool>(
+    stack: &mut [u8],
+    depth: &mut usize,
+    literal: u8,
+) -> Report
+    ensures { operate_of E.EDITION stack.old depth.old literal ≡ (outcome (number_of result) depth.new, stack.new) }
+{
+    match literal {
+        // With an entry for 0, the literal is the index of the jump table as it is.
+        0 => literals::unknown(stack, *depth),
+        table::EXCHANGE => moving::exchange(stack, depth),
+        table::DELETE => moving::delete::<IN_LOOP>(stack, depth),
+        table::SUBTRACT => by_edition::subtract::<E>(stack, depth),
+        table::MULTIPLY => by_edition::multiply::<E>(stack, depth),
+        table::DIVIDE => dividing::divide::<E>(stack, depth),
+        table::ADD => by_edition::add::<E>(stack, depth),
+        table::NEGATE => by_edition::negate::<E>(stack, depth),
+        table::INT => by_edition::int::<E>(stack, depth),
+        table::DUPLICATE => moving::duplicate::<IN_LOOP>(stack, depth),
+        table::TRUNCATE => by_edition::truncate::<E>(stack, depth),
+        table::RE_STACK => by_edition::re_stack::<E>(stack, depth),
+        _ => literals::unknown(stack, *depth),
+    }
+}
+
+// With the depth moved where it stands: the report is all that is answered.
+pub fn operate_in_place(stack: &mut [u8], depth: &mut usize, literal: u8) -> Report
+    ensures { operate_of unnamed stack.old depth.old literal ≡ (outcome (number_of result) depth.new, stack.new) }
+{
+    operate_as::<Unnamed, false>(stack, depth, literal)
+}
+
+pub fn operate_in_place_in(
+    edition: Edition,
+    stack: &mut [u8],
+    depth: &mut usize,
+    literal: u8,
+) -> Report
+    ensures { operate_of edition stack.old depth.old literal ≡ (outcome (number_of result) depth.new, stack.new) }
+{
+    match edition {
+        Edition::Shipped => operate_as::<Shipped, false>(stack, depth, literal),
+        Edition::Mended => operate_as::<Mended, false>(stack, depth, literal),
+    }
+}
 
 pub fn operate(stack: &mut [u8], depth: usize, literal: u8) -> Outcome
-    ensures { operate_of unnamed stack.old depth literal ≡ (result, stack.new) }
+    ensures { operate_of unnamed stack.old depth literal ≡ (outcome (number_of result.report) result.depth, stack.new) }
 {
     let mut after = depth;
     let report = operate_in_place(stack, &mut after, literal);
@@ -22,86 +71,12 @@ pub fn operate(stack: &mut [u8], depth: usize, literal: u8) -> Outcome
 }
 
 pub fn operate_in(edition: Edition, stack: &mut [u8], depth: usize, literal: u8) -> Outcome
-    ensures { operate_of edition stack.old depth literal ≡ (result, stack.new) }
+    ensures { operate_of edition stack.old depth literal ≡ (outcome (number_of result.report) result.depth, stack.new) }
 {
     let mut after = depth;
     let report = operate_in_place_in(edition, stack, &mut after, literal);
     Outcome {
         report,
         depth: after,
-    }
-}
-
-// The same with the depth moved where it stands: the report is all that is answered.
-pub fn operate_in_place(stack: &mut [u8], depth: &mut usize, literal: u8) -> u8
-    ensures { operate_of unnamed stack.old depth.old literal ≡ (outcome result depth.new, stack.new) }
-{
-    let meant = edition::unnamed();
-    match meant {
-        Edition::Shipped => shipped(stack, depth, literal),
-        Edition::Mended => operate_in_place_in(meant, stack, depth, literal),
-    }
-}
-
-// A table of its own for the edition that is meant by most: the compiler then has it inside the call.
-fn shipped(stack: &mut [u8], depth: &mut usize, literal: u8) -> u8
-    ensures { operate_of Shipped stack.old depth.old literal ≡ (outcome result depth.new, stack.new) }
-{
-    match literal {
-        // With an entry for 0, the literal is the index of the jump table as it is.
-        0 => literals::unknown(stack, *depth),
-        table::EXCHANGE => moving::exchange(stack, depth),
-        table::DELETE => moving::delete(stack, depth),
-        table::SUBTRACT => adding::subtract(stack, depth),
-        table::MULTIPLY => multiplying::multiply(stack, depth),
-        table::DIVIDE => dividing::divide(stack, depth),
-        table::ADD => adding::add(stack, depth),
-        table::NEGATE => unary::negate(stack, depth),
-        table::INT => unary::int(stack, depth),
-        table::DUPLICATE => moving::duplicate(stack, depth),
-        table::TRUNCATE => unary::truncate(stack, depth),
-        table::RE_STACK => unary::re_stack(stack, depth),
-        _ => literals::unknown(stack, *depth),
-    }
-}
-
-pub fn operate_in_place_in(edition: Edition, stack: &mut [u8], depth: &mut usize, literal: u8) -> u8
-    ensures { operate_of edition stack.old depth.old literal ≡ (outcome result depth.new, stack.new) }
-{
-    match literal {
-        0 => literals::unknown(stack, *depth),
-        table::EXCHANGE => moving::exchange(stack, depth),
-        table::DELETE => moving::delete(stack, depth),
-        table::SUBTRACT => by_edition::subtract(edition, stack, depth),
-        table::MULTIPLY => by_edition::multiply(edition, stack, depth),
-        table::DIVIDE => by_edition::divide(edition, stack, depth),
-        table::ADD => by_edition::add(edition, stack, depth),
-        table::NEGATE => by_edition::negate(edition, stack, depth),
-        table::INT => by_edition::int(edition, stack, depth),
-        table::DUPLICATE => moving::duplicate(stack, depth),
-        table::TRUNCATE => by_edition::truncate(edition, stack, depth),
-        table::RE_STACK => by_edition::re_stack(edition, stack, depth),
-        _ => literals::unknown(stack, *depth),
-    }
-}
-
-// For a run in the edition that is named: no large literal is then put into either table, which would save registers for it on every call.
-pub fn run_step_in(edition: Edition, stack: &mut [u8], depth: &mut usize, literal: u8) -> u8
-    ensures { operate_of edition stack.old depth.old literal ≡ (outcome result depth.new, stack.new) }
-{
-    match literal {
-        0 => literals::unknown(stack, *depth),
-        table::EXCHANGE => moving::exchange(stack, depth),
-        table::DELETE => moving::delete_in_loop(stack, depth),
-        table::SUBTRACT => by_edition::subtract(edition, stack, depth),
-        table::MULTIPLY => by_edition::multiply(edition, stack, depth),
-        table::DIVIDE => by_edition::divide(edition, stack, depth),
-        table::ADD => by_edition::add(edition, stack, depth),
-        table::NEGATE => by_edition::negate(edition, stack, depth),
-        table::INT => by_edition::int(edition, stack, depth),
-        table::DUPLICATE => moving::duplicate_in_loop(stack, depth),
-        table::TRUNCATE => by_edition::truncate(edition, stack, depth),
-        table::RE_STACK => by_edition::re_stack(edition, stack, depth),
-        _ => literals::unknown(stack, *depth),
     }
 }

@@ -5,9 +5,7 @@ use Rattle.text.specs.Digits.{decimal_of}
 use Rattle.slots.specs.View.{view_of}
 use Rattle.wording.specs.Wording.{step_answer}
 use Rattle.recording.specs.Recording.{literal_in, report_in, depth_in, top_in, first, later}
-use Rattle.replaying.specs.declared.answer.Replayed.{Replayed}
-use Rattle.replaying.specs.declared.answer.Verdict.{Verdict}
-use Rattle.replaying.specs.declared.answer.Verdict.TheVariants.{Agree, Differ, Refused}
+use Rattle.replaying.specs.Answer.{Replayed, Verdict, Agree, Differ, Refused}
 use Rattle.replaying.specs.Replay.{is_push, top_differs}
 use Rattle.telling.specs.Verdict.{verdict_line}
 use Rattle.printing.specs.Names.{name_of}

@@ -11,8 +11,7 @@ use Rattle.slots.specs.ViewLaws.{view_length}
 use Rattle.wording.specs.Wording.{step_answer}
 use Rattle.wording.specs.Room.{step_room}
 use Rattle.recording.specs.Recording.{literal_in, report_in, depth_in, first, later}
-use Rattle.replaying.specs.declared.answer.Verdict.{Verdict}
-use Rattle.replaying.specs.declared.answer.Verdict.TheVariants.{Agree, Differ, Refused}
+use Rattle.replaying.specs.Answer.{Verdict, Agree, Differ, Refused}
 use Rattle.replaying.specs.Replay.{is_push, top_differs, replay_of}
 use Rattle.replaying.specs.Bounds.{spoken}
 use Rattle.replaying.proofs.BoundsLaws.{spoken_most}

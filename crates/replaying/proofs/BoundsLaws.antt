@@ -4,9 +4,7 @@ use native.Mathlib.Omega.{arith}
 use Rattle.slots.specs.Reports.{over_limits}
 use Rattle.recording.specs.Recording.{first, later, records, not_a_recording}
 use Rattle.recording.specs.RecordingLaws.{not_too_long}
-use Rattle.replaying.specs.declared.answer.Replayed.{Replayed}
-use Rattle.replaying.specs.declared.answer.Verdict.{Verdict}
-use Rattle.replaying.specs.declared.answer.Verdict.TheVariants.{Agree, Differ}
+use Rattle.replaying.specs.Answer.{Replayed, Verdict, Agree, Differ}
 use Rattle.replaying.specs.declared.answer.Field.{Field}
 use Rattle.replaying.specs.Replay.{step_of, report_differs, depth_differs, top_differs, go_on, refused, replay_of}
 use Rattle.replaying.specs.Bounds.{spoken}

@@ -7,15 +7,14 @@ use Rattle.std.proofs.Math.Bool.{or-false}
 use Rattle.std.proofs.Math.Nat.{sub-zero, sub_self}
 use native.Mathlib.Omega.{arith}
 use Rattle.edition.specs.declared.Edition.TheVariants.{Shipped}
-use Rattle.slots.specs.declared.outcome.Outcome.{Outcome}
+use Rattle.slots.specs.Outcome.{Outcome}
 use Rattle.slots.specs.Reports.{over_limits}
 use Rattle.slots.specs.Push.{push_of}
 use Rattle.literals.specs.Operate.{operate_of}
 use Rattle.recording.specs.Recording.{literal_in, top_in, first, later, same, not_a_recording}
-use Rattle.replaying.specs.declared.answer.Replayed.{Replayed}
+use Rattle.replaying.specs.Answer.{Replayed, Agree}
 use Rattle.replaying.specs.declared.answer.Field.{Field}
 use Rattle.replaying.specs.declared.answer.Field.TheVariants.{Report, Depth, Top}
-use Rattle.replaying.specs.declared.answer.Verdict.TheVariants.{Agree}
 use Rattle.replaying.specs.Replay.{step_of, top_of, report_differs, depth_differs, top_differs, differs, go_on, refused, replay_of}
 use Rattle.replaying.proofs.TopLaws.{top_of_push, top_of_literal}
 use Rattle.replaying.specs.ReplayLaws.{any_differs, first_field, go_on_with, head_differs}

@@ -4,14 +4,13 @@
 -- number 8."
 use Rattle.std.specs.Prelude.{ℕ, zero, suc, ◌+◌, Bool, cond, not, ◌&&◌, List, length, ◌==◌}
 use Rattle.edition.specs.declared.Edition.TheVariants.{Shipped}
-use Rattle.slots.specs.declared.outcome.Outcome.{Outcome}
+use Rattle.slots.specs.Outcome.{Outcome}
 use Rattle.slots.specs.Reports.{over_limits}
 use Rattle.slots.specs.Push.{push_of}
 use Rattle.slots.specs.View.{view_of}
 use Rattle.literals.specs.Operate.{operate_of}
 use Rattle.recording.specs.Recording.{literal_in, report_in, depth_in, top_in, first, later, records, same, zeros, not_a_recording}
-use Rattle.replaying.specs.declared.answer.Replayed.{Replayed}
-use Rattle.replaying.specs.declared.answer.Verdict.TheVariants.{Agree, Differ, Refused}
+use Rattle.replaying.specs.Answer.{Replayed, Agree, Differ, Refused}
 use Rattle.replaying.specs.declared.answer.Field.{Field}
 use Rattle.replaying.specs.declared.answer.Field.TheVariants.{Report, Depth, Top}
 

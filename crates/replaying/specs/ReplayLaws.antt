@@ -1,6 +1,6 @@
 -- The words of the replay's laws (proofs/ReplayLaws): whether and where a record differs, and the rest of a replay.
 use Rattle.std.specs.Prelude.{ℕ, ◌-◌, ◌/◌, Bool, cond, ◌||◌, List, length, drop}
-use Rattle.replaying.specs.declared.answer.Replayed.{Replayed}
+use Rattle.replaying.specs.Answer.{Replayed}
 use Rattle.replaying.specs.declared.answer.Field.{Field}
 use Rattle.replaying.specs.declared.answer.Field.TheVariants.{Report, Depth, Top}
 use Rattle.replaying.specs.Replay.{report_differs, depth_differs, top_differs, go_on}

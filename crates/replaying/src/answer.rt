@@ -1,9 +1,24 @@
 // What a replay answers beside the bytes that it leaves.
+ghost use Rattle.std.specs.Prelude.{◌≡◌};
+ghost use Rattle.replaying.specs.Fields.{field_number};
+
+use slots::Report;
+
 #[derive(Clone, Copy)]
 pub enum Field {
-    Report,
-    Depth,
-    Top,
+    Report = 1,
+    Depth = 2,
+    Top = 3,
+}
+
+impl Field {
+    // As the C interface has it.
+    #[tactic(auto, unfolding(crate::specs::Fields::field_number))]
+    pub fn number(self) -> u8
+        ensures { result ≡ field_number self }
+    {
+        self as u8
+    }
 }
 
 #[derive(Clone, Copy)]
@@ -12,14 +27,14 @@ pub enum Verdict {
     Agree(usize),
     // The number of the first record that differs, from 0, and its first field that does.
     Differ(usize, Field),
-    // 1 or 8.
-    Refused(u8),
+    // Over the limits, or not a recording.
+    Refused(Report),
 }
 
 #[derive(Clone, Copy)]
 pub struct Replayed {
     pub verdict: Verdict,
-    // Of the step that differs, and else 0.
-    pub report: u8,
+    // Of the step that differs, and else done.
+    pub report: Report,
     pub depth: usize,
 }

@@ -1,29 +1,31 @@
 // The replay.
 ghost use Rattle.std.specs.Prelude.{◌≡◌};
+ghost use Rattle.slots.specs.Numbers.{number_of};
+ghost use Rattle.replaying.specs.Answer.{replayed_of};
 ghost use Rattle.replaying.specs.Replay.{refused, replay_of};
 
 use crate::answer::{Replayed, Verdict};
 use crate::steps;
-use crate::steps::Held;
+use slots::Report;
 
-fn refused(number: u8) -> Replayed
-    ensures { result ≡ refused number }
+fn refused(report: Report) -> Replayed
+    ensures { replayed_of result ≡ refused (number_of report) }
 {
     Replayed {
-        verdict: Verdict::Refused(number),
-        report: 0,
+        verdict: Verdict::Refused(report),
+        report: Report::Done,
         depth: 0,
     }
 }
 
 pub fn replay(stack: &mut [u8], recording: &[u8]) -> Replayed
-    ensures { replay_of stack.old recording.now ≡ (result, stack.new) }
+    ensures { replay_of stack.old recording.now ≡ (replayed_of result, stack.new) }
 {
     if slots::over_limits(stack, 0) {
-        return refused(1);
+        return refused(Report::OverLimits);
     }
     if recording::not_a_recording(recording) {
-        return refused(8);
+        return refused(Report::NotARecording);
     }
     let len = recording.len();
     let mut depth = 0;
@@ -33,23 +35,19 @@ pub fn replay(stack: &mut [u8], recording: &[u8]) -> Replayed
         if left == 0 {
             break Replayed {
                 verdict: Verdict::Agree(len / 16),
-                report: 0,
+                report: Report::Done,
                 depth,
             };
         }
         let at = len - left;
         let here = &recording[at..at + 16];
-        let held = steps::step(stack, &mut depth, here);
-        match held {
-            Held::Agrees => {}
-            Held::Differs(report) => {
-                let field = steps::first_difference(here, report, depth);
-                break Replayed {
-                    verdict: Verdict::Differ(at / 16, field),
-                    report,
-                    depth,
-                };
-            }
+        if let Err(report) = steps::step(stack, &mut depth, here) {
+            let field = steps::first_difference(here, report, depth);
+            break Replayed {
+                verdict: Verdict::Differ(at / 16, field),
+                report,
+                depth,
+            };
         }
         left -= 16;
     }

@@ -2,7 +2,7 @@
 use Rattle.std.specs.Prelude.{ℕ, ◌≡◌, Bool, true, false, List, []}
 use Rattle.text.specs.Put.{Text, puts_of}
 use Rattle.edition.specs.declared.Edition.{Edition}
-use Rattle.slots.specs.declared.outcome.Outcome.{Outcome}
+use Rattle.slots.specs.Outcome.{Outcome}
 use Rattle.slots.specs.View.{view_of}
 use Rattle.sheet.specs.declared.meaning.Line.{Line}
 use Rattle.sheet.specs.declared.meaning.Line.TheVariants.{Nothing, Push, Literal, Named, Unreadable}

@@ -1,7 +1,7 @@
 -- What a line of the sheet does to the stack: a push, a literal in the edition that holds, or nothing.
 use Rattle.std.specs.Prelude.{ℕ, List}
 use Rattle.edition.specs.declared.Edition.{Edition}
-use Rattle.slots.specs.declared.outcome.Outcome.{Outcome}
+use Rattle.slots.specs.Outcome.{Outcome}
 use Rattle.slots.specs.Slots.{bytes_of}
 use Rattle.slots.specs.Push.{push_of}
 use Rattle.literals.specs.Operate.{operate_of}

@@ -4,7 +4,7 @@ use Rattle.std.proofs.Math.Path.{refl}
 use Rattle.std.proofs.Common.{sym, ◌∙◌, ap, arith}
 use borrow.Author.Tests.{lt-ltb, le-ltb, eq-eqb, ne_eqb}
 use Rattle.number.specs.Number.{malformed}
-use Rattle.slots.specs.declared.outcome.Outcome.{Outcome}
+use Rattle.slots.specs.Outcome.{Outcome}
 use Rattle.slots.specs.Slots.{number_in, bytes_of, put_slot}
 use Rattle.slots.specs.SlotLaws.{bytes_of_slot, slot_five, five_of_lem}
 use Rattle.slots.specs.Reports.{over_limits, no_room, not_a_number, push_report}

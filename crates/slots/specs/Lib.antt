@@ -7,5 +7,7 @@ pub mod Reach
 pub mod ReachLaws
 pub mod View
 pub mod ViewLaws
+pub mod Numbers
+pub mod Outcome
 pub mod Push
 pub mod PushLaws

@@ -1,6 +1,6 @@
 -- What a push leaves: report, depth and every byte of the stack. "A refusal returns its number and the old depth and changes no byte."
 use Rattle.std.specs.Prelude.{ℕ, zero, suc, ◌+◌, List}
-use Rattle.slots.specs.declared.outcome.Outcome.{Outcome}
+use Rattle.slots.specs.Outcome.{Outcome}
 use Rattle.slots.specs.Slots.{put_slot}
 use Rattle.slots.specs.Reports.{push_report}
 

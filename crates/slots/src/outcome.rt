@@ -1,6 +1,8 @@
-// What an operation or a push answers beside the bytes that it leaves: its report (0 is done) and the depth after it.
+// What an operation or a push answers beside the bytes that it leaves: its report and the depth after it.
+use crate::report::Report;
+
 #[derive(Clone, Copy)]
 pub struct Outcome {
-    pub report: u8,
+    pub report: Report,
     pub depth: usize,
 }

@@ -1,8 +1,10 @@
 // Reports 1 and 2: whether a stack is within its limits and has the numbers that a literal takes.
 ghost use Rattle.std.specs.Prelude.{◌≡◌};
+ghost use Rattle.slots.specs.Numbers.{number_of};
 ghost use Rattle.slots.specs.Reach.{lacking, refusal_of};
 
 use crate::limits::over_limits;
+use crate::report::Report;
 
 // Each literal asks this first, and what the report is only where the answer is yes. In 32 bits the last product is one that nothing else
 // computes: the compiler then tests and jumps, where it would else compute all four answers.
@@ -52,16 +54,16 @@ pub fn lacks_top(stack: &[u8], depth: usize) -> bool
     len / 5 <= std::num::wrapping_sub_usize(depth, 1)
 }
 
-// Which report it is; 4 where neither 1 nor 2 is. It asks anew and in its own way (`over_limits`): with the same tests as above, the compiler would
+// Which report it is; no room where it is neither of the others. It asks anew and in its own way (`over_limits`): with the same tests as above, the compiler would
 // compute them once for both, and branch on none.
-pub fn refusal(stack: &[u8], depth: usize, takes: usize) -> u8
-    ensures { result ≡ refusal_of stack.now depth takes }
+pub fn refusal(stack: &[u8], depth: usize, takes: usize) -> Report
+    ensures { number_of result ≡ refusal_of stack.now depth takes }
 {
     if over_limits(stack, depth) {
-        return 1;
+        return Report::OverLimits;
     }
     if depth < takes {
-        return 2;
+        return Report::TooFew;
     }
-    4
+    Report::NoRoom
 }

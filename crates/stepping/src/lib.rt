@@ -5,12 +5,14 @@
 ghost use Rattle.std.specs.Prelude.{◌≡◌};
 ghost use Rattle.edition.specs.declared.Edition.TheVariants.{Shipped};
 ghost use Rattle.literals.specs.Operate.{operate_of, outcome};
+ghost use Rattle.slots.specs.Numbers.{number_of};
 
 use literals::table;
+use slots::Report;
 
 // For a run: each small literal is inside its loop.
-pub fn run_step(stack: &mut [u8], depth: &mut usize, literal: u8) -> u8
-    ensures { operate_of Shipped stack.old depth.old literal ≡ (outcome result depth.new, stack.new) }
+pub fn run_step(stack: &mut [u8], depth: &mut usize, literal: u8) -> Report
+    ensures { operate_of Shipped stack.old depth.old literal ≡ (outcome (number_of result) depth.new, stack.new) }
 {
     match literal {
         0 => literals::unknown(stack, *depth),
@@ -30,8 +32,8 @@ pub fn run_step(stack: &mut [u8], depth: &mut usize, literal: u8) -> u8
 }
 
 // For a replay, which hands on no literal 0.
-pub fn replay_step(stack: &mut [u8], depth: &mut usize, literal: u8) -> u8
-    ensures { operate_of Shipped stack.old depth.old literal ≡ (outcome result depth.new, stack.new) }
+pub fn replay_step(stack: &mut [u8], depth: &mut usize, literal: u8) -> Report
+    ensures { operate_of Shipped stack.old depth.old literal ≡ (outcome (number_of result) depth.new, stack.new) }
 {
     match literal {
         table::EXCHANGE => moving::exchange(stack, depth),

@@ -4,8 +4,7 @@ use Rattle.std.proofs.Common.{arith, length-append}
 use Rattle.text.specs.Ascii.{ascii}
 use Rattle.text.specs.Put.{before, puts_of, puts_whole}
 use Rattle.text.specs.Digits.{decimal_of, digits_length}
-use Rattle.replaying.specs.declared.answer.Verdict.{Verdict}
-use Rattle.replaying.specs.declared.answer.Verdict.TheVariants.{Agree, Differ, Refused}
+use Rattle.replaying.specs.Answer.{Verdict, Agree, Differ, Refused}
 use Rattle.replaying.specs.declared.answer.Field.{Field}
 use Rattle.replaying.specs.declared.answer.Field.TheVariants.{Report, Depth, Top}
 use Rattle.replaying.specs.Replay.{replay_of}

@@ -3,9 +3,7 @@ use Rattle.std.specs.Prelude.{ℕ, List, [], ◌∷◌, ◌++◌}
 use Rattle.text.specs.Put.{Text, puts_of}
 use Rattle.text.specs.Ascii.{ascii}
 use Rattle.text.specs.Digits.{decimal_of}
-use Rattle.replaying.specs.declared.answer.Replayed.{Replayed}
-use Rattle.replaying.specs.declared.answer.Verdict.{Verdict}
-use Rattle.replaying.specs.declared.answer.Verdict.TheVariants.{Agree, Differ, Refused}
+use Rattle.replaying.specs.Answer.{Replayed, Verdict, Agree, Differ, Refused}
 use Rattle.replaying.specs.declared.answer.Field.{Field}
 use Rattle.replaying.specs.declared.answer.Field.TheVariants.{Report, Depth, Top}
 

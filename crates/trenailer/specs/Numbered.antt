@@ -2,11 +2,10 @@
 use Rattle.std.specs.Prelude.{ℕ, cond, List, eqb}
 use Rattle.edition.specs.declared.Edition.{Edition}
 use Rattle.edition.specs.declared.Edition.TheVariants.{Shipped, Mended}
-use Rattle.slots.specs.declared.outcome.Outcome.{Outcome}
+use Rattle.slots.specs.Outcome.{Outcome}
 use Rattle.literals.specs.Operate.{outcome, operate_of}
-use Rattle.calculator.specs.declared.outcome.RunOutcome.{RunOutcome}
+use Rattle.calculator.specs.Outcome.{RunOutcome, run_outcome}
 use Rattle.calculator.specs.Run.{run_of}
-use Rattle.trenailer.specs.Told.{run_outcome}
 
 -- what is given in the edition of that number, and else what there is instead
 abbrev pub numbered : {A : Type 0} → ℕ → (Edition → A) → A → A

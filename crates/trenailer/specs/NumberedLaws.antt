@@ -4,8 +4,8 @@ use Rattle.std.proofs.Common.{arith, eq-eqb, ne_eqb}
 use Rattle.edition.specs.declared.Edition.{Edition}
 use Rattle.edition.specs.declared.Edition.TheVariants.{Shipped, Mended}
 use Rattle.literals.specs.Operate.{outcome, operate_of}
+use Rattle.calculator.specs.Outcome.{run_outcome}
 use Rattle.calculator.specs.Run.{run_of}
-use Rattle.trenailer.specs.Told.{run_outcome}
 use Rattle.trenailer.specs.Numbered.{numbered, operate_numbered, run_numbered}
 
 module _ {A : Type 0} (n : ℕ) (given : Edition → A) (other : A) where

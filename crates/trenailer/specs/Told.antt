@@ -1,18 +1,11 @@
 -- What the calculator's answers are through the C interface, where they go out as a number and through pointers.
 use Rattle.std.specs.Prelude.{ℕ, ◌-◌, ◌*◌, ◌≡◌, cond, List, [], ◌∷◌, eqb, Float, length, take, drop}
-use Rattle.calculator.specs.declared.outcome.RunOutcome.{RunOutcome}
 use Rattle.display.specs.declared.shown.Cell.{Cell}
 use Rattle.display.specs.declared.shown.Cell.TheVariants.{Refused, Blank, Odd, Value}
 use Rattle.display.specs.Cell.{report_in, Carried, nothing, number, carried_by}
 use Rattle.slots.specs.View.{view_of}
-use Rattle.replaying.specs.declared.answer.Verdict.{Verdict}
-use Rattle.replaying.specs.declared.answer.Verdict.TheVariants.{Agree, Differ, Refused as Unread}
-use Rattle.replaying.specs.declared.answer.Field.{Field}
-use Rattle.replaying.specs.declared.answer.Field.TheVariants.{Report, Depth, Top}
-
--- the report that is returned, with the position and the depth that are written
-abbrev pub run_outcome : ℕ → ℕ → ℕ → RunOutcome
-run_outcome r p d = record { report = r; position = p; depth = d }
+use Rattle.replaying.specs.Answer.{Verdict, Agree, Differ, Refused as Unread}
+use Rattle.replaying.specs.Fields.{field_number}
 
 -- where a view begins: at the top slot's first byte; an empty view leaves what the caller had
 unfoldable pub start_of : List ℕ → ℕ → ℕ → ℕ
@@ -40,12 +33,6 @@ value_or was (number x) = x
 -- What a case does not name stays as it was.
 unfoldable pub told_of : Cell → ℕ → Float → ℕ × ℕ × Float
 told_of c refused value = (kind_of c, cond (eqb (kind_of c) 0) (report_in c) refused, value_or value (carried_by c))
-
--- the interface's number for a field; 0 is none
-unfoldable pub field_number : Field → ℕ
-field_number Report = 1
-field_number Depth = 2
-field_number Top = 3
 
 -- What is returned of a replay, what then stands in *count, *field and *depth, and the stack.
 unfoldable pub replay_told : Verdict → ℕ → List ℕ → ℕ × ℕ × ℕ × ℕ × List ℕ

@@ -9,42 +9,33 @@ ghost use Rattle.slots.specs.Push.{push_of};
 ghost use Rattle.display.specs.Cell.{cell_of};
 ghost use Rattle.literals.specs.Operate.{outcome, operate_of};
 ghost use Rattle.calculator.specs.Run.{run_of};
+ghost use Rattle.calculator.specs.Outcome.{run_outcome};
 ghost use Rattle.replaying.specs.Replay.{replay_of};
-ghost use Rattle.trenailer.specs.Told.{run_outcome, Part, told_of, field_number, replay_told};
+ghost use Rattle.trenailer.specs.Told.{Part, told_of, replay_told};
 ghost use Rattle.trenailer.specs.Numbered.{operate_numbered, run_numbered};
 
-use calculator::{Cell, Edition};
-use replaying::{Field, Verdict};
-
-const SHIPPED: u8 = 0;
-
-const MENDED: u8 = 1;
-
-// Neither of them.
-const UNKNOWN_EDITION: u8 = 12;
+use calculator::{Cell, Edition, Report};
+use replaying::Verdict;
 
 pub fn trenailer_operate(stack: &mut [u8], depth: &mut usize, literal: u8) -> u8
     ensures { operate_of unnamed stack.old depth.old literal ≡ (outcome result depth.new, stack.new) }
 {
-    calculator::operate_in_place(stack, depth, literal)
+    calculator::operate_in_place(stack, depth, literal).number()
 }
 
 pub fn trenailer_operate_in(edition: u8, stack: &mut [u8], depth: &mut usize, literal: u8) -> u8
     ensures { operate_numbered edition stack.old depth.old literal ≡ (outcome result depth.new, stack.new) }
 {
-    match edition {
-        SHIPPED => calculator::operate_in_place_in(Edition::Shipped, stack, depth, literal),
-        MENDED => calculator::operate_in_place_in(Edition::Mended, stack, depth, literal),
-        _ => UNKNOWN_EDITION,
+    match Edition::try_from(edition) {
+        Ok(edition) => calculator::operate_in_place_in(edition, stack, depth, literal).number(),
+        Err(_) => Report::UnknownEdition.number(),
     }
 }
 
 pub fn trenailer_push(stack: &mut [u8], depth: &mut usize, number: &[u8]) -> u8
     ensures { push_of stack.old depth.old number.now ≡ (outcome result depth.new, stack.new) }
 {
-    let done = calculator::push(stack, *depth, number);
-    *depth = done.depth;
-    done.report
+    calculator::push_in_place::<false>(stack, depth, number).number()
 }
 
 pub fn trenailer_run(
@@ -59,24 +50,7 @@ pub fn trenailer_run(
     let done = calculator::run(stack, *depth, literals);
     *depth = done.depth;
     *position = done.position;
-    done.report
-}
-
-// A run in an edition, with the depth and the position where they stand.
-fn run_there(
-    edition: Edition,
-    stack: &mut [u8],
-    depth: &mut usize,
-    literals: &[u8],
-    position: &mut usize,
-) -> u8
-    ensures { run_of edition stack.old depth.old literals.now
-        ≡ (run_outcome result position.new depth.new, stack.new) }
-{
-    let ran = calculator::run_in(edition, stack, *depth, literals);
-    *depth = ran.depth;
-    *position = ran.position;
-    ran.report
+    done.report.number()
 }
 
 pub fn trenailer_run_in(
@@ -89,12 +63,16 @@ pub fn trenailer_run_in(
     ensures { run_numbered edition stack.old depth.old literals.now
         ≡ (run_outcome result position.new depth.new, stack.new) }
 {
-    match edition {
-        SHIPPED => run_there(Edition::Shipped, stack, depth, literals, position),
-        MENDED => run_there(Edition::Mended, stack, depth, literals, position),
-        _ => {
+    match Edition::try_from(edition) {
+        Ok(edition) => {
+            let ran = calculator::run_in(edition, stack, *depth, literals);
+            *depth = ran.depth;
+            *position = ran.position;
+            ran.report.number()
+        }
+        Err(_) => {
             *position = 0;
-            UNKNOWN_EDITION
+            Report::UnknownEdition.number()
         }
     }
 }
@@ -143,16 +121,6 @@ pub fn trenailer_leading_zeros(t: u32) -> u8
     calculator::leading_zeros(t) as u8
 }
 
-fn field_number(field: Field) -> u8
-    ensures { result ≡ field_number field }
-{
-    match field {
-        Field::Report => 1,
-        Field::Depth => 2,
-        Field::Top => 3,
-    }
-}
-
 // 0, or the number that refuses the recording.
 pub fn trenailer_replay(
     stack: &mut [u8],
@@ -175,13 +143,13 @@ pub fn trenailer_replay(
         }
         Verdict::Differ(n, f) => {
             *count = n;
-            *field = field_number(f);
+            *field = f.number();
             0
         }
-        Verdict::Refused(n) => {
+        Verdict::Refused(report) => {
             *count = 0;
             *field = 0;
-            n
+            report.number()
         }
     }
 }

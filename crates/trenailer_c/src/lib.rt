@@ -9,8 +9,9 @@ ghost use Rattle.slots.specs.Push.{push_of};
 ghost use Rattle.display.specs.Cell.{cell_of};
 ghost use Rattle.literals.specs.Operate.{outcome, operate_of};
 ghost use Rattle.calculator.specs.Run.{run_of};
+ghost use Rattle.calculator.specs.Outcome.{run_outcome};
 ghost use Rattle.replaying.specs.Replay.{replay_of};
-ghost use Rattle.trenailer.specs.Told.{run_outcome, Part, told_of, field_number, replay_told};
+ghost use Rattle.trenailer.specs.Told.{Part, told_of, replay_told};
 ghost use Rattle.trenailer.specs.Numbered.{operate_numbered, run_numbered};
 
 #[unsafe(no_mangle)]

@@ -29,20 +29,15 @@ module _ (ed : Edition) (s : List ℕ) (d : ℕ) where
   second e h o b q = q ∙ sym (simp (sym h, e, sym o))
 
 pub returns-then-lacks : goal.returns-then-lacks
-returns-then-lacks c = few _ _ _ (sym c.if-lacks.true ∙ c.lacks.ensures)
+returns-then-lacks g c = few _ _ _ (sym c.if-lacks.true ∙ c.lacks.ensures)
 
 pub returns-then-odd_at : goal.returns-then-odd_at
-returns-then-odd_at c =
-    let e = c in
-    let m = c in
-    first _ _ _ m.in-Mended.is (sym e.if-lacks.false ∙ e.lacks.ensures) (sym c.if-odd_at.true ∙ c.odd_at.ensures)
+returns-then-odd_at g c =
+    first _ _ _ (sym c.EDITION.ensures ∙ c.in-Mended.is) (sym c.if-lacks.false ∙ c.lacks.ensures) (sym c.if-odd_at.true ∙ c.odd_at.ensures)
 
 pub returns-in-Shipped : goal.returns-in-Shipped
-returns-in-Shipped c = none _ _ _ c.in-Shipped.is
+returns-in-Shipped g c = none _ _ _ (sym c.EDITION.ensures ∙ c.in-Shipped.is)
 
 pub returns-else-odd_at : goal.returns-else-odd_at
-returns-else-odd_at c =
-    let o = c in
-    let e = c in
-    let m = c in
-    second _ _ _ m.in-Mended.is (sym e.if-lacks.false ∙ e.lacks.ensures) (sym o.if-odd_at.false ∙ o.odd_at.ensures) _ c.odd_at-in-Mended.ensures
+returns-else-odd_at g c =
+    second _ _ _ (sym c.EDITION.ensures ∙ c.in-Mended.is) (sym c.if-lacks.false ∙ c.lacks.ensures) (sym c.if-odd_at.false ∙ c.odd_at.ensures) _ c.odd_at-in-Mended.ensures

@@ -8,8 +8,8 @@ returns-in-Agree c = simp (c.replay-done.ensures, c.in-Agree.is)
 
 pub returns-in-Differ : goal.returns-in-Differ
 unfolding replay_told
-returns-in-Differ c = simp (c.replay-done.ensures, c.in-Differ.is, c.field_number.ensures)
+returns-in-Differ c = simp (c.replay-done.ensures, c.in-Differ.is, c.number.ensures)
 
 pub returns-in-Refused : goal.returns-in-Refused
 unfolding replay_told
-returns-in-Refused c = simp (c.replay-done.ensures, c.in-Refused.is)
+returns-in-Refused c = simp (c.replay-done.ensures, c.in-Refused.is, c.number-in-Refused.ensures)

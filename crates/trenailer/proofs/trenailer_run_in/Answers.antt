@@ -1,13 +1,13 @@
--- `trenailer_run_in` meets its contract: an arm for each number, and one for all others.
-use Rattle.std.proofs.Common.{◌∙◌}
-use Rattle.trenailer.specs.NumberedLaws.{run_shipped, run_mended, run_unknown}
+-- `trenailer_run_in` meets its contract: the edition of that number, or none.
+use Rattle.std.proofs.Common.{ap, sym, ℕ, ◌∙◌}
+use Rattle.calculator.specs.Outcome.{run_outcome}
+use Rattle.trenailer.proofs.Numbered.{run_known, run_none}
 use Rattle.trenailer.proofs.trenailer_run_in.Goals as goal
 
-pub returns-in-0 : goal.returns-in-0
-returns-in-0 c = let r = c in run_shipped _ _ _ _ r.in-0.is ∙ r.run_there.ensures
+pub returns-in-Ok : goal.returns-in-Ok
+returns-in-Ok c =
+    run_known _ _ _ _ _ c.in-Ok.ensures ∙ c.run_in-ran.ensures
+    ∙ ap (λ (n : ℕ). (run_outcome n c.run_in-ran.result.position c.run_in-ran.result.depth, c.run_in-ran.new.stack)) (sym c.number.ensures)
 
-pub returns-in-1 : goal.returns-in-1
-returns-in-1 c = let r = c in run_mended _ _ _ _ r.in-1.is ∙ r.run_there-in-1.ensures
-
-pub returns-in_default : goal.returns-in_default
-returns-in_default c = run_unknown _ _ _ _ c.in_default.in_default-own.rest.0.1 c.in_default.in_default-own.rest.1
+pub returns-in-Err : goal.returns-in-Err
+returns-in-Err c = run_none _ _ _ _ c.in-Err.ensures ∙ ap (λ (n : ℕ). (run_outcome n 0 c.args.depth.now, c.args.stack.now)) (sym c.number-in-Err.ensures)

@@ -10,47 +10,38 @@ use Rattle.slots.specs.Reach.{number_at}
 use Rattle.slots.specs.ReachLaws.{number_bytes}
 use Rattle.literals.specs.Literals.{row_of}
 use Rattle.odd.specs.Mending.{minds}
-use Rattle.by_edition.specs.EitherLaws.{Follows, leaves, top_refused, top_follows}
+use Rattle.odd.specs.EitherLaws.{Follows, leaves, top_refused, top_follows}
 use Rattle.by_edition.specs.IntLaws.{tests, int_taken}
+use Rattle.by_edition.proofs.Mended.{done, refused}
 use Rattle.by_edition.proofs.one.int.Goals as goal
+use Rattle.by_edition.proofs.one.int.Given.{Over as Given}
 use Rattle.by_edition.proofs.one.int.Goals.{After-int-report, Else-odd_top}
 
 -- the number on top, made of bytes, is not odd
-abbrev top : Else-odd_top → Number
-top c = let i = c.args in number_at i.stack.now i.depth.now 0
+abbrev top : (g : Given) → Else-odd_top g → Number
+top g c = let i = c.args in number_at i.stack.now i.depth.now 0
 
-follows : (c : After-int-report) → Follows _ _ 39 _ _ _ c.int-report.ensures c.args.edition
+follows : (g : Given) (c : After-int-report g) → Follows _ _ 39 _ _ _ c.int-report.ensures g.E.Rom.EDITION
 unfolding row_of
-follows c =
-    let t = c in
-    let e = c in
-    let k = c in
-    let x = top c.before.before.before.before in
-    let b = number_bytes k.args.stack.now k.args.depth.now 0 (λ j. omega (arith, k.slice_known-1.given j)) in
-    let o = sym e.odd_top.ensures ∙ e.if-odd_top.false in
+follows g c =
+    let x = number_at c.args.stack.now c.args.depth.now 0 in
+    let b = number_bytes c.args.stack.now c.args.depth.now 0 (λ j. omega (arith, c.slice_known-1.given j)) in
+    let o = sym c.odd_top.ensures ∙ c.if-odd_top.false in
     let n = int_done Shipped x b in
     top_follows _ _ 39 int_of refl n.0 n.1 _ _ _ c.int-report.ensures _ o
-    (λ m. int_mended x b (sym (minds x m) ∙ o) (sym (tests x m) ∙ sym t.taken_top.ensures ∙ t.if-taken_top.false) ∙ ap mended_answer n.1)
+    (λ m. int_mended x b (sym (minds x m) ∙ o) (sym (tests x m) ∙ sym c.taken_top.ensures ∙ c.if-taken_top.false) ∙ ap mended_answer n.1)
 
 pub returns-then-odd_top : goal.returns-then-odd_top
 unfolding row_of
-returns-then-odd_top c = top_refused _ _ 39 int_of refl _ (sym c.odd_top.ensures ∙ c.if-odd_top.true)
+returns-then-odd_top g c = top_refused _ _ 39 int_of refl _ (sym c.odd_top.ensures ∙ c.if-odd_top.true)
 
 pub returns-then-taken_top : goal.returns-then-taken_top
 unfolding row_of
-returns-then-taken_top c =
-    let p = c in
-    let t = c in
-    let k = c in
-    leaves (int_taken _ _ (λ j. omega (arith, k.slice_known-1.given j)) _ (sym t.taken_top.ensures ∙ t.if-taken_top.true)) p.int_top.ensures
+returns-then-taken_top g c =
+    leaves (int_taken _ _ (λ j. omega (arith, c.slice_known-1.given j)) _ (sym c.taken_top.ensures ∙ c.if-taken_top.true)) c.int_top.ensures
 
-pub returns-then-report-ne0 : goal.returns-then-report-ne0
-unfolding row_of
-returns-then-report-ne0 c = (follows c.before.before.before.before).0 c.if-report-ne0.true
+pub returns-then-is_done : goal.returns-then-is_done
+returns-then-is_done g c = done _ _ _ _ _ _ c.int-report.ensures _ (follows g (goal.at.returns-then-is_done g c).After-int-report) (sym c.if-is_done.true) c.is_done.ensures c.mend_top.ensures
 
-pub returns : goal.returns
-unfolding row_of
-returns c =
-    let m = c in
-    let e = c in
-    leaves ((follows c.before.before.before.before.before.before.before.before).1 e.if-report-ne0.false) m.mend_top.ensures
+pub returns-else-is_done : goal.returns-else-is_done
+returns-else-is_done g c = refused _ _ _ _ _ _ c.int-report.ensures _ (follows g (goal.at.returns-else-is_done g c).After-int-report) (sym c.if-is_done.false) c.is_done.ensures

@@ -2,16 +2,14 @@
 use Rattle.std.proofs.Common.{refl, sym, ◌∙◌}
 use Rattle.multiplication.specs.Multiplication.{product_of}
 use Rattle.literals.specs.Literals.{row_of}
-use Rattle.by_edition.specs.EitherLaws.{pair_refused, pair_same}
+use Rattle.odd.specs.EitherLaws.{pair_refused, pair_same}
 use Rattle.by_edition.proofs.two.multiply.Goals as goal
 
 pub returns-then-odd_pair : goal.returns-then-odd_pair
 unfolding row_of
-returns-then-odd_pair c = pair_refused _ _ 4 (λ ed. product_of) refl _ (sym c.odd_pair.ensures ∙ c.if-odd_pair.true)
+returns-then-odd_pair g c = pair_refused _ _ 4 (λ ed. product_of) refl _ (sym c.odd_pair.ensures ∙ c.if-odd_pair.true)
 
 pub returns : goal.returns
 unfolding row_of
-returns c =
-    let m = c in
-    let e = c in
-    pair_same _ _ 4 (λ ed. product_of) refl _ (sym e.odd_pair.ensures ∙ e.if-odd_pair.false) refl ∙ m.multiply.ensures
+returns g c =
+    pair_same _ _ 4 (λ ed. product_of) refl _ (sym c.odd_pair.ensures ∙ c.if-odd_pair.false) refl ∙ c.multiply.ensures

@@ -3,27 +3,24 @@ use Rattle.std.proofs.Common.{refl, sym, ◌∙◌}
 use Rattle.addition.specs.Addition.{difference_of}
 use Rattle.addition.proofs.MendedLaws.{difference_mended}
 use Rattle.literals.specs.Literals.{row_of}
-use Rattle.by_edition.specs.EitherLaws.{Follows, leaves, pair_refused, pair_follows}
+use Rattle.odd.specs.EitherLaws.{Follows, pair_refused, pair_follows}
+use Rattle.by_edition.proofs.Mended.{done, refused}
 use Rattle.by_edition.proofs.two.subtract.Goals as goal
 use Rattle.by_edition.proofs.two.subtract.Goals.{After-subtract-report}
+use Rattle.by_edition.proofs.two.subtract.Given.{Over as Given}
 
-follows : (c : After-subtract-report) → Follows _ _ 3 _ _ _ c.subtract-report.ensures c.args.edition
+follows : (g : Given) (c : After-subtract-report g) → Follows _ _ 3 _ _ _ c.subtract-report.ensures g.E.Rom.EDITION
 unfolding row_of
-follows c =
+follows g c =
     let e = c in
     pair_follows _ _ 3 difference_of refl _ _ _ c.subtract-report.ensures _ (sym e.odd_pair.ensures ∙ e.if-odd_pair.false) (difference_mended _ _)
 
 pub returns-then-odd_pair : goal.returns-then-odd_pair
 unfolding row_of
-returns-then-odd_pair c = pair_refused _ _ 3 difference_of refl _ (sym c.odd_pair.ensures ∙ c.if-odd_pair.true)
+returns-then-odd_pair g c = pair_refused _ _ 3 difference_of refl _ (sym c.odd_pair.ensures ∙ c.if-odd_pair.true)
 
-pub returns-then-report-ne0 : goal.returns-then-report-ne0
-unfolding row_of
-returns-then-report-ne0 c = (follows c.before.before.before.before).0 c.if-report-ne0.true
+pub returns-then-is_done : goal.returns-then-is_done
+returns-then-is_done g c = done _ _ _ _ _ _ c.subtract-report.ensures _ (follows g (goal.at.returns-then-is_done g c).After-subtract-report) (sym c.if-is_done.true) c.is_done.ensures c.mend_top.ensures
 
-pub returns : goal.returns
-unfolding row_of
-returns c =
-    let m = c in
-    let e = c in
-    leaves ((follows c.before.before.before.before.before.before.before.before).1 e.if-report-ne0.false) m.mend_top.ensures
+pub returns-else-is_done : goal.returns-else-is_done
+returns-else-is_done g c = refused _ _ _ _ _ _ c.subtract-report.ensures _ (follows g (goal.at.returns-else-is_done g c).After-subtract-report) (sym c.if-is_done.false) c.is_done.ensures

@@ -4,11 +4,11 @@ use Rattle.slots.specs.ReachLaws.{has}
 use Rattle.literals.proofs.MoveLaws.{delete_lacking, delete_done}
 use Rattle.moving.proofs.literal.delete.Goals as goal
 
-pub returns-then-lacks : goal.returns-then-lacks
-returns-then-lacks c ed = let t = c in delete_lacking ed _ _ (sym t.lacks.ensures ∙ t.if-lacks.true) _ c.refusal.ensures
+pub returns-then-is_empty : goal.returns-then-is_empty
+returns-then-is_empty g c ed = delete_lacking ed _ _ (sym c.is_empty.ensures ∙ c.if-is_empty.true) _ c.refusal.ensures
 
 pub overflow_sub-depth : goal.overflow_sub-depth
-overflow_sub-depth c = omega (arith, has _ _ _ (sym c.lacks.ensures ∙ c.if-lacks.false))
+overflow_sub-depth g c = omega (arith, has _ _ _ (sym c.is_empty.ensures ∙ c.if-is_empty.false))
 
 pub returns : goal.returns
-returns c ed = delete_done ed _ _ (sym c.lacks.ensures ∙ c.if-lacks.false)
+returns g c ed = delete_done ed _ _ (sym c.is_empty.ensures ∙ c.if-is_empty.false)

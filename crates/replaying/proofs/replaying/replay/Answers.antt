@@ -9,22 +9,20 @@ use Rattle.replaying.proofs.replaying.replay.Goals as goal
 -- a record is 16 bytes from its place on
 pub loop-left-preserved : goal.loop-left-preserved
 loop-left-preserved c =
-    let a = c in
-    let l = a.loop-left in
-    let r = a.args.recording.now in
-    let given = held_agrees _ _ _ _ _ _ (rw add-sub_cancel_left at a.step-held.ensures) c.in-Agrees.is in (
+    let l = c.loop-left in
+    let r = c.args.recording.now in
+    let given = held_agrees _ _ _ _ _ _ (rw add-sub_cancel_left at c.step.ensures) c.in_default.is in (
       sym (turn_agrees r l.left _ _ (omega arith) (omega arith) _ _ given.0 given.1) ∙ l.invariant.0,
-      a.step-held.auto.stack ∙ l.invariant.1,
+      c.step.auto.stack ∙ l.invariant.1,
       omega arith,
       omega arith,
     )
 
-pub returns-in-Differs : goal.returns-in-Differs
-returns-in-Differs c =
-    let a = c in
-    let l = a.loop-left in
-    let r = a.args.recording.now in
-    let given = held_differs _ _ _ _ _ _ _ (rw add-sub_cancel_left at a.step-held.ensures) c.in-Differs.is in
+pub returns-in-Err : goal.returns-in-Err
+returns-in-Err c =
+    let l = c.loop-left in
+    let r = c.args.recording.now in
+    let given = held_differs _ _ _ _ _ _ _ (rw add-sub_cancel_left at c.step.ensures) c.in-Err.is in
     sym l.invariant.0
     ∙ turn_differs r l.left _ _ (omega arith) (omega arith) _ _ given.0 given.1 (rw add-sub_cancel_left at c.first_difference-field.ensures)
 

@@ -10,7 +10,7 @@ use Rattle.edition.specs.declared.Edition.TheVariants.{Shipped, Mended}
 use Rattle.number.specs.declared.Number.{Number}
 use Rattle.number.specs.Number.{malformed, odd}
 use Rattle.addition.specs.MendedLaws.{mended, mended_answer}
-use Rattle.slots.specs.declared.outcome.Outcome.{Outcome}
+use Rattle.slots.specs.Outcome.{Outcome}
 use Rattle.slots.specs.Reports.{over_limits}
 use Rattle.slots.specs.Reach.{lacking, refusal_of, number_at, put_at}
 use Rattle.literals.specs.Literals.{one, two, row, row_of}
