@@ -45,6 +45,7 @@ fn put_record(
     text::put_all(recording, rest, b"\0\0\0\0\0\0\0")
 }
 
+#[tactic(auto, unfolding(crate::specs::Entry::said_kept))]
 pub(crate) fn record_step(
     stack: &mut [u8],
     depth: usize,

@@ -27,6 +27,7 @@ fn why_edition(edition: Edition) -> Why
     }
 }
 
+#[tactic(auto, unfolding(crate::specs::Complaint::why_not))]
 pub fn why_not(said: Result<Step, Fault>, end: usize) -> Why
     ensures { result ≡ why_not said end }
 {

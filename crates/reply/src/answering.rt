@@ -16,6 +16,7 @@ pub struct Answered {
     pub err: usize,
 }
 
+#[tactic(auto, unfolding(crate::specs::Following::goes_on))]
 fn goes_on(terminal: bool, said: Result<Step, Fault>) -> bool
     ensures { result ≡ goes_on terminal said }
 {

@@ -14,6 +14,7 @@ fn put_unreadable(out: &mut [u8], number: u64) -> usize
     text::put(out, end, b'\n')
 }
 
+#[tactic(auto, unfolding(crate::specs::Answer::answer_of, text::specs::Put::puts_of))]
 pub(crate) fn put_answer(
     out: &mut [u8],
     number: u64,

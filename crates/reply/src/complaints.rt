@@ -21,6 +21,7 @@ fn put_complaint(
     text::put_all(out, end, after)
 }
 
+#[tactic(auto, unfolding(crate::specs::Following::said_of, crate::specs::Answer::complaint_of, text::specs::Put::puts_of))]
 pub(crate) fn put_said(
     out: &mut [u8],
     terminal: bool,

@@ -5,7 +5,13 @@ ghost use Rattle.reply.specs.Step.{step_of, edition_after};
 use calculator::{Edition, Outcome};
 use sheet::{Fault, Step};
 
-pub(crate) fn step(edition: Edition, stack: &mut [u8], depth: usize, said: Result<Step, Fault>) -> Outcome
+#[tactic(auto, unfolding(crate::specs::Step::step_of, slots::specs::Slots::bytes_of))]
+pub(crate) fn step(
+    edition: Edition,
+    stack: &mut [u8],
+    depth: usize,
+    said: Result<Step, Fault>,
+) -> Outcome
     ensures { step_of edition stack.old depth said ≡ (result, stack.new) }
 {
     match said {
@@ -28,6 +34,7 @@ pub(crate) fn step(edition: Edition, stack: &mut [u8], depth: usize, said: Resul
 }
 
 // The edition from here on.
+#[tactic(auto, unfolding(crate::specs::Step::edition_after))]
 pub(crate) fn edition_after(edition: Edition, said: Result<Step, Fault>) -> Edition
     ensures { result ≡ edition_after edition said }
 {
