@@ -5,7 +5,7 @@ ghost use Rattle.replaying.specs.Made.{record_with};
 ghost use Rattle.entry.specs.Entry.{five_of, said_kept};
 
 use edition::Edition;
-use sheet::Line;
+use sheet::{Fault, Step};
 
 // The depth after a step, and the place after its record.
 #[derive(Clone, Copy)]
@@ -45,18 +45,19 @@ fn put_record(
     text::put_all(recording, rest, b"\0\0\0\0\0\0\0")
 }
 
+#[tactic(auto, unfolding(crate::specs::Entry::said_kept))]
 pub(crate) fn record_step(
     stack: &mut [u8],
     depth: usize,
-    said: Line,
+    said: Result<Step, Fault>,
     recording: &mut [u8],
     end: usize,
 ) -> Kept
     ensures { (stack.new, result.depth, (recording.new, result.end)) ≡ said_kept stack.old depth (recording.old, end) said }
 {
     match said {
-        Line::Nothing => Kept { depth, end },
-        Line::Push(n) => {
+        Ok(Step::Nothing) => Kept { depth, end },
+        Ok(Step::Push(n)) => {
             let w = n.word;
             let five = [
                 n.b1,
@@ -72,7 +73,7 @@ pub(crate) fn record_step(
                 end: put_record(recording, end, 0, done.report, after, &five),
             }
         }
-        Line::Literal(l) => {
+        Ok(Step::Literal(l)) => {
             let done = calculator::operate_in(Edition::Shipped, stack, depth, l);
             let after = done.depth;
             Kept {
@@ -87,7 +88,7 @@ pub(crate) fn record_step(
                 ),
             }
         }
-        Line::Named(_) => Kept { depth, end },
-        Line::Unreadable(_) => Kept { depth, end },
+        Ok(Step::Named(_)) => Kept { depth, end },
+        Err(_) => Kept { depth, end },
     }
 }

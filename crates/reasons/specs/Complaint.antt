@@ -1,12 +1,12 @@
 -- Why a line can't be taken, and what standard error has of it then.
-use Rattle.std.specs.Prelude.{ℕ, ◌+◌, ◌≤◌, ◌<◌, ◌≡◌, refl, Bool, true, false, cond, List, [], ◌++◌, eqb, ltb}
+use Rattle.std.specs.Prelude.{Ok, Err, ℕ, ◌+◌, ◌≤◌, ◌<◌, ◌≡◌, refl, Bool, true, false, cond, List, [], ◌++◌, eqb, ltb}
 use Rattle.std.proofs.lemmas.Bool.{false≢true, eqb-false}
 use Rattle.std.proofs.Common.{arith, lt-ltb, le-ltb, ltb-false}
 use Rattle.text.specs.Ascii.{ascii}
 use Rattle.edition.specs.declared.Edition.{Edition}
 use Rattle.edition.specs.declared.Edition.TheVariants.{Shipped, Mended}
-use Rattle.sheet.specs.declared.meaning.Line.{Line}
-use Rattle.sheet.specs.declared.meaning.Line.TheVariants.{Nothing, Push, Literal, Named, Unreadable}
+use Rattle.sheet.specs.Line.{Line}
+use Rattle.sheet.specs.declared.meaning.Step.TheVariants.{Nothing, Push, Literal, Named}
 use Rattle.wording.specs.Wording.{fault_of, place_of}
 use Rattle.reasons.specs.declared.why.Why.{Why}
 use Rattle.reasons.specs.declared.why.Why.TheVariants.{None, Unread, Mended as NotShipped, Zero, Full}
@@ -30,11 +30,11 @@ why_edition Mended = NotShipped
 
 -- "byte 0 the literal (0 for push)": literal 0 has no record
 unfoldable pub why_not : Line → ℕ → Why
-why_not Nothing end = None
-why_not (Push n) end = why_full end
-why_not (Literal l) end = cond (eqb l 0) Zero (why_full end)
-why_not (Named e) end = why_edition e
-why_not (Unreadable f) end = Unread f
+why_not (Ok Nothing) end = None
+why_not (Ok (Push n)) end = why_full end
+why_not (Ok (Literal l)) end = cond (eqb l 0) Zero (why_full end)
+why_not (Ok (Named e)) end = why_edition e
+why_not (Err f) end = Unread f
 
 unfoldable pub is_taken : Why → Bool
 is_taken None = true
@@ -62,7 +62,7 @@ has_room end = go (ltb 64000 (end + 16)) refl
     go true h e = absurd (false≢true e)
     go false h e = omega (arith, ltb-false 64000 (end + 16) h)
 
-pub no_zero : (l end : ℕ) → is_taken (why_not (Literal l) end) ≡ true → (l ≡ 0 → ⊥) × (is_taken (why_full end) ≡ true)
+pub no_zero : (l end : ℕ) → is_taken (why_not (Ok (Literal l)) end) ≡ true → (l ≡ 0 → ⊥) × (is_taken (why_full end) ≡ true)
 unfolding why_not is_taken
 no_zero l end = go (eqb l 0) refl
   where

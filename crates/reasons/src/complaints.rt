@@ -5,7 +5,7 @@ ghost use Rattle.reasons.specs.Complaint.{why_full, why_edition, why_not, is_tak
 
 use crate::why::Why;
 use edition::Edition;
-use sheet::Line;
+use sheet::{Fault, Step};
 
 // Whether 64,000 bytes have room for a record more.
 fn why_full(end: usize) -> Why
@@ -27,20 +27,21 @@ fn why_edition(edition: Edition) -> Why
     }
 }
 
-pub fn why_not(said: Line, end: usize) -> Why
+#[tactic(auto, unfolding(crate::specs::Complaint::why_not))]
+pub fn why_not(said: Result<Step, Fault>, end: usize) -> Why
     ensures { result ≡ why_not said end }
 {
     match said {
-        Line::Nothing => Why::None,
-        Line::Push(_) => why_full(end),
-        Line::Literal(l) => {
+        Ok(Step::Nothing) => Why::None,
+        Ok(Step::Push(_)) => why_full(end),
+        Ok(Step::Literal(l)) => {
             if l == 0 {
                 return Why::Zero;
             }
             why_full(end)
         }
-        Line::Named(edition) => why_edition(edition),
-        Line::Unreadable(fault) => Why::Unread(fault),
+        Ok(Step::Named(edition)) => why_edition(edition),
+        Err(fault) => Why::Unread(fault),
     }
 }
 

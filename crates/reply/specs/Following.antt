@@ -1,31 +1,30 @@
 -- One line of a sheet, from its number, the stack, the depth and the edition to what it writes and what it leaves.
-use Rattle.std.specs.Prelude.{ℕ, ◌≡◌, Bool, true, false, List, []}
+use Rattle.std.specs.Prelude.{Ok, Err, ℕ, ◌≡◌, Bool, true, false, List, []}
 use Rattle.text.specs.Put.{Text, puts_of}
 use Rattle.edition.specs.declared.Edition.{Edition}
 use Rattle.slots.specs.declared.outcome.Outcome.{Outcome}
 use Rattle.slots.specs.View.{view_of}
-use Rattle.sheet.specs.declared.meaning.Line.{Line}
-use Rattle.sheet.specs.declared.meaning.Line.TheVariants.{Nothing, Push, Literal, Named, Unreadable}
+use Rattle.sheet.specs.declared.meaning.Step.TheVariants.{Nothing, Push, Literal, Named}
 use Rattle.words.specs.Blanks.{told_of, trimmed}
-use Rattle.sheet.specs.Line.{line_of}
+use Rattle.sheet.specs.Line.{Line, line_of}
 use Rattle.reply.specs.Step.{step_of, edition_after}
 use Rattle.reply.specs.Answer.{answer_of, written_of, complaint_of}
 
 -- what standard error has of a line
 unfoldable pub said_of : Bool → ℕ → List ℕ → Line → List ℕ
-said_of terminal number text Nothing = []
-said_of terminal number text (Push n) = []
-said_of terminal number text (Literal l) = []
-said_of terminal number text (Named e) = []
-said_of terminal number text (Unreadable f) = complaint_of terminal number text f
+said_of terminal number text (Ok Nothing) = []
+said_of terminal number text (Ok (Push n)) = []
+said_of terminal number text (Ok (Literal l)) = []
+said_of terminal number text (Ok (Named e)) = []
+said_of terminal number text (Err f) = complaint_of terminal number text f
 
 -- whether another step may be done after a line: not after one that can't be read, unless it can be typed again
 unfoldable pub goes_on : Bool → Line → Bool
-goes_on terminal Nothing = true
-goes_on terminal (Push n) = true
-goes_on terminal (Literal l) = true
-goes_on terminal (Named e) = true
-goes_on terminal (Unreadable f) = terminal
+goes_on terminal (Ok Nothing) = true
+goes_on terminal (Ok (Push n)) = true
+goes_on terminal (Ok (Literal l)) = true
+goes_on terminal (Ok (Named e)) = true
+goes_on terminal (Err f) = terminal
 
 -- the stack, the depth and the edition after it, whether another step may be done, and what is put for standard output and for standard error into buffers lent for it
 abbrev pub Left : Type 0

@@ -4,7 +4,7 @@ ghost use Rattle.reply.specs.Following.{goes_on, line_left};
 
 use crate::{answers, complaints, steps};
 use calculator::Edition;
-use sheet::Line;
+use sheet::{Fault, Step};
 
 // The depth and the edition after a line, whether another step may be done, and how much was put for standard output and for standard error.
 #[derive(Clone, Copy)]
@@ -16,15 +16,16 @@ pub struct Answered {
     pub err: usize,
 }
 
-fn goes_on(terminal: bool, said: Line) -> bool
+#[tactic(auto, unfolding(crate::specs::Following::goes_on))]
+fn goes_on(terminal: bool, said: Result<Step, Fault>) -> bool
     ensures { result ≡ goes_on terminal said }
 {
     match said {
-        Line::Nothing => true,
-        Line::Push(_) => true,
-        Line::Literal(_) => true,
-        Line::Named(_) => true,
-        Line::Unreadable(_) => terminal,
+        Ok(Step::Nothing) => true,
+        Ok(Step::Push(_)) => true,
+        Ok(Step::Literal(_)) => true,
+        Ok(Step::Named(_)) => true,
+        Err(_) => terminal,
     }
 }
 

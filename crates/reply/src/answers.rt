@@ -3,7 +3,7 @@ ghost use Rattle.std.specs.Prelude.{◌≡◌};
 ghost use Rattle.text.specs.Put.{puts_of};
 ghost use Rattle.reply.specs.Answer.{unreadable_answer, answer_of};
 
-use sheet::Line;
+use sheet::{Fault, Step};
 
 // That a line can't be read, with its number.
 fn put_unreadable(out: &mut [u8], number: u64) -> usize
@@ -14,10 +14,11 @@ fn put_unreadable(out: &mut [u8], number: u64) -> usize
     text::put(out, end, b'\n')
 }
 
+#[tactic(auto, unfolding(crate::specs::Answer::answer_of, text::specs::Put::puts_of))]
 pub(crate) fn put_answer(
     out: &mut [u8],
     number: u64,
-    said: Line,
+    said: Result<Step, Fault>,
     report: u8,
     depth: usize,
     top: &[u8],
@@ -25,10 +26,10 @@ pub(crate) fn put_answer(
     ensures { (out.new, result) ≡ puts_of (out.old, 0) (answer_of number said report depth top.now) }
 {
     match said {
-        Line::Nothing => 0,
-        Line::Push(_) => wording::put_step(out, 0, report, depth, top),
-        Line::Literal(_) => wording::put_step(out, 0, report, depth, top),
-        Line::Named(_) => 0,
-        Line::Unreadable(_) => put_unreadable(out, number),
+        Ok(Step::Nothing) => 0,
+        Ok(Step::Push(_)) => wording::put_step(out, 0, report, depth, top),
+        Ok(Step::Literal(_)) => wording::put_step(out, 0, report, depth, top),
+        Ok(Step::Named(_)) => 0,
+        Err(_) => put_unreadable(out, number),
     }
 }

@@ -4,7 +4,7 @@ ghost use Rattle.text.specs.Put.{puts_of};
 ghost use Rattle.reply.specs.Answer.{complaint};
 ghost use Rattle.reply.specs.Following.{said_of};
 
-use sheet::{Fault, Line};
+use sheet::{Fault, Step};
 
 fn put_complaint(
     out: &mut [u8],
@@ -21,21 +21,22 @@ fn put_complaint(
     text::put_all(out, end, after)
 }
 
+#[tactic(auto, unfolding(crate::specs::Following::said_of, crate::specs::Answer::complaint_of, text::specs::Put::puts_of))]
 pub(crate) fn put_said(
     out: &mut [u8],
     terminal: bool,
     number: u64,
     text: &[u8],
-    said: Line,
+    said: Result<Step, Fault>,
 ) -> usize
     ensures { (out.new, result) ≡ puts_of (out.old, 0) (said_of terminal number text.now said) }
 {
     match said {
-        Line::Nothing => 0,
-        Line::Push(_) => 0,
-        Line::Literal(_) => 0,
-        Line::Named(_) => 0,
-        Line::Unreadable(fault) => {
+        Ok(Step::Nothing) => 0,
+        Ok(Step::Push(_)) => 0,
+        Ok(Step::Literal(_)) => 0,
+        Ok(Step::Named(_)) => 0,
+        Err(fault) => {
             if terminal {
                 return put_complaint(out, b"line ", number, text, fault, b"; type it again\n");
             }
