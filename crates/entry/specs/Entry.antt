@@ -1,5 +1,5 @@
 -- One line of a sheet, from its number, the stack, the depth and the recording so far to what it leaves of them, or to what is wrong with it.
-use Rattle.std.specs.Prelude.{Ok, Err, ℕ, ◌≡◌, true, false, cond, List, eqb, length}
+use Rattle.std.specs.Prelude.{Ok, Err, Option, None, Some, ℕ, ◌≡◌, true, false, cond, List, eqb, length}
 use Rattle.edition.specs.declared.Edition.TheVariants.{Shipped}
 use Rattle.text.specs.Put.{Text, puts_of}
 use Rattle.number.specs.declared.Number.{Number}
@@ -50,20 +50,11 @@ module _ (s : List ℕ) (d : ℕ) (t : Text) {said : Line} {o : Outcome} {s' : L
   literal_kept q e g f = rw (q, f, g) (simp e)
 
 -- A line that is taken says nothing on standard error; another leaves all as it was.
+unfoldable pub recorded_by : List ℕ → ℕ → ℕ → List ℕ → Text → List ℕ → Option Why → Kept × Text
+recorded_by s d number told t err None = (said_kept s d t (line_of told), (err, 0))
+recorded_by s d number told t err (Some why) = ((s, d, t), puts_of (err, 0) (complaint_of number (trimmed told) why))
+
 unfoldable pub line_recorded : List ℕ → ℕ → ℕ → List ℕ → Text → List ℕ → Kept × Text
 line_recorded s d number line t err =
     let told = told_of number line in
-    let why = why_not (line_of told) t.1 in
-    cond (is_taken why) (said_kept s d t (line_of told), (err, 0)) ((s, d, t), puts_of (err, 0) (complaint_of number (trimmed told) why))
-
--- by its parts: a line that is taken, and one that is not
-module _ (s : List ℕ) (d number : ℕ) (line : List ℕ) (t : Text) (err : List ℕ) {told : List ℕ} {said : Line} {why : Why}
-    (a : told ≡ told_of number line) (b : said ≡ line_of told) (w : why ≡ why_not said t.1) where
-  pub line_taken : {kept : Kept} → is_taken why ≡ true → kept ≡ said_kept s d t said → (kept, (err, 0)) ≡ line_recorded s d number line t err
-  unfolding line_recorded
-  line_taken e k = rw k (simp (← a, ← b, ← w, e))
-
-  pub line_left_lem : {text : List ℕ} {complained : Text} → is_taken why ≡ false → text ≡ trimmed told → complained ≡ puts_of (err, 0) (complaint_of number text why)
-      → ((s, d, t), complained) ≡ line_recorded s d number line t err
-  unfolding line_recorded
-  line_left_lem e x c = rw (c, x) (simp (← a, ← b, ← w, e))
+    recorded_by s d number told t err (why_not (line_of told) t.1)
