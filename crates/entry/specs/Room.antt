@@ -1,12 +1,12 @@
 -- A recording of 64,000 bytes has room for the record of a line that is taken, and a buffer of 256 for the complaint of one that is not: both are whole.
-use Rattle.std.specs.Prelude.{Option, None, Some, ℕ, ◌≤◌, ◌≡◌, Bool, length, take}
+use Rattle.std.specs.Prelude.{Option, None, Some, ℕ, ◌≤◌, ◌≡◌, length, take}
 use Rattle.std.proofs.Math.Path.{refl}
 use Rattle.std.proofs.lemmas.Bool.{false≢true}
 use Rattle.std.proofs.Common.{sym, ◌∙◌, ap, arith, length-append}
-use Rattle.std.proofs.Math.Bool.{true, false, cond}
+use Rattle.std.proofs.Math.Bool.{true, false}
 use mathlib.Core.List.{List, [], ◌++◌}
 use Rattle.text.specs.Ascii.{ascii}
-use Rattle.text.specs.Put.{Text, before, puts_of, puts_after, puts_whole}
+use Rattle.text.specs.Put.{Text, before, puts_after, puts_whole}
 use Rattle.number.specs.declared.Number.{Number}
 use Rattle.slots.specs.declared.outcome.Outcome.{Outcome}
 use Rattle.slots.specs.Slots.{bytes_of}

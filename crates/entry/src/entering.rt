@@ -13,7 +13,7 @@ pub struct Recorded {
     pub err: usize,
 }
 
-#[tactic(auto, unfolding(crate::specs::Entry::line_recorded))]
+#[tactic(auto, unfolding(crate::specs::Entry::line_recorded, crate::specs::Entry::recorded_by))]
 pub fn record_line(
     stack: &mut [u8],
     depth: usize,

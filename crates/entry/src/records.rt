@@ -32,7 +32,7 @@ fn put_record(page: &mut Page, literal: u8, done: Outcome, top: &[u8])
 }
 
 // Answers the depth after it.
-#[tactic(auto, unfolding(crate::specs::Entry::said_kept))]
+#[tactic(auto, unfolding(crate::specs::Entry::said_kept, crate::specs::Entry::five_of, replaying::specs::Made::done_by, replaying::specs::Made::record_of, replaying::specs::Replay::top_of, slots::specs::Slots::bytes_of))]
 pub(crate) fn record_step(
     stack: &mut [u8],
     depth: usize,
