@@ -1,0 +1,93 @@
+// A sheet that is answered: its steps are done on a stack, and each line's answer is written.
+use edition::Edition;
+use lines::Sheet;
+use standard::say;
+use std::io::{Read, Write};
+
+#[derive(Drop)]
+struct Answering<'a, W, E> {
+    out: &'a mut W,
+    err: &'a mut E,
+    terminal: bool,
+    stack: &'a mut [u8],
+    depth: usize,
+    // The edition that the sheet has named.
+    edition: Edition,
+    // The next line's: of one that could not be read, its own, since it is typed again.
+    number: u64,
+    // False once a line can't be read or an answer could not be written: no step is done any more.
+    going: bool,
+    // At a terminal, after a line that could not be read: it is to be typed again.
+    owed: bool,
+}
+
+impl<'a, W: Write, E: Write> Sheet for Answering<'a, W, E> {
+    fn line(&mut self, line: &[u8]) {
+        let mut answer = [0u8; 64];
+        let mut complaint = [0u8; 256];
+        let done = reply::answer_line(
+            self.edition,
+            self.stack,
+            self.depth,
+            self.going,
+            line,
+            self.number,
+            self.terminal,
+            &mut answer,
+            &mut complaint,
+        );
+        self.depth = done.depth;
+        self.edition = done.edition;
+        self.going = done.going;
+        let complained = 0 < done.err;
+        self.owed = done.going && complained;
+        if !complained {
+            self.number = self.number.wrapping_add(1);
+        }
+        if self.out.write_all(text::first(&answer, done.out)).is_err() {
+            say(
+                self.err,
+                b"calc: standard output cannot be written; nothing more was done\n",
+            );
+            self.going = false;
+        }
+        say(self.err, text::first(&complaint, done.err));
+    }
+
+    fn goes_on(&self) -> bool {
+        self.going
+    }
+
+    fn fail(&mut self) {
+        say(self.err, b"calc: standard input cannot be read\n");
+        self.going = false;
+    }
+}
+
+pub(crate) fn answer<R: Read, W: Write, E: Write>(
+    input: &mut R,
+    out: &mut W,
+    err: &mut E,
+    terminal: bool,
+    stack: &mut [u8],
+    line: &mut [u8],
+) {
+    let mut answering = Answering {
+        out,
+        err,
+        terminal,
+        stack,
+        depth: 0,
+        edition: edition::unnamed(),
+        number: 1,
+        going: true,
+        owed: false,
+    };
+    lines::follow(input, line, &mut answering);
+    if answering.owed {
+        say(
+            answering.err,
+            b"calc: the last line could not be read, and was not typed again\n",
+        );
+    }
+}

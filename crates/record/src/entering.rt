@@ -1,0 +1,81 @@
+// A sheet that is recorded: its steps are done on a stack, and each has its record.
+use lines::Sheet;
+use standard::say;
+use std::io::{Read, Write};
+
+#[derive(Drop)]
+struct Entering<'a, E> {
+    err: &'a mut E,
+    stack: &'a mut [u8],
+    depth: usize,
+    recording: &'a mut [u8],
+    // The place after the last record.
+    end: usize,
+    // The next line's.
+    number: u64,
+    // False once a line can't be taken or the input can't be read: no step is done any more, and nothing is written.
+    going: bool,
+}
+
+impl<'a, E: Write> Sheet for Entering<'a, E> {
+    // After a line that can't be taken, what was read with it is passed over.
+    fn line(&mut self, line: &[u8]) {
+        if !self.going {
+            return;
+        }
+        let mut complaint = [0u8; 256];
+        let done = entry::record_line(
+            self.stack,
+            self.depth,
+            line,
+            self.number,
+            self.recording,
+            self.end,
+            &mut complaint,
+        );
+        self.depth = done.depth;
+        self.end = done.end;
+        self.number = self.number.wrapping_add(1);
+        self.going = done.err == 0;
+        say(self.err, text::first(&complaint, done.err));
+    }
+
+    fn goes_on(&self) -> bool {
+        self.going
+    }
+
+    fn fail(&mut self) {
+        say(
+            self.err,
+            b"record: standard input cannot be read; no recording was written\n",
+        );
+        self.going = false;
+    }
+}
+
+// The recording is written when every line was taken.
+pub(crate) fn record<R: Read, W: Write, E: Write>(
+    input: &mut R,
+    out: &mut W,
+    err: &mut E,
+    stack: &mut [u8],
+    line: &mut [u8],
+    recording: &mut [u8],
+) {
+    let mut entering = Entering {
+        err,
+        stack,
+        depth: 0,
+        recording,
+        end: 0,
+        number: 1,
+        going: true,
+    };
+    lines::follow(input, line, &mut entering);
+    if entering.going && out.write_all(text::first(entering.recording, entering.end)).is_err() {
+        say(
+            entering.err,
+            b"record: standard output cannot be written; the recording is not whole\n",
+        );
+    }
+}
