@@ -53,8 +53,13 @@ fn replay(stack: &mut [u8], recording: &[u8]) -> Answer {
     let mut position = 0;
     let mut field = 0;
     let mut depth = 0;
-    let report =
-        trenailer::trenailer_replay(stack, recording, &mut position, &mut field, &mut depth);
+    let report = trenailer::trenailer_replay(
+        stack,
+        recording,
+        &mut position,
+        &mut field,
+        &mut depth,
+    );
     Answer {
         field: Some(field),
         report,
@@ -88,8 +93,7 @@ fn operate_in(edition: u8, stack: &mut [u8], depth: usize, literal: u8) -> Answe
 fn run_in(edition: u8, stack: &mut [u8], depth: usize, literals: &[u8]) -> Answer {
     let mut after = depth;
     let mut position = 0;
-    let report =
-        trenailer::trenailer_run_in(edition, stack, &mut after, literals, &mut position);
+    let report = trenailer::trenailer_run_in(edition, stack, &mut after, literals, &mut position);
     Answer {
         field: None,
         report,

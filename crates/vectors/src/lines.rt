@@ -8,17 +8,18 @@ use text::Page;
 #[derive(Drop)]
 struct Answering<'a, W, E> {
     line: Page<'a>,
-    out: &'a mut W,
-    err: &'a mut E,
+    out: W,
+    err: E,
 }
 
 impl<'a, W: Write, E: Write> Answering<'a, W, E> {
     fn write(&mut self, answer: &[u8]) -> io::Result<()> {
-        let written = self.out.write_all(answer);
-        if written.is_err() {
-            say(self.err, b"vectors: standard output cannot be written\n");
-        }
-        written
+        self.out.write_all(answer).inspect_err(|_| {
+            say(
+                &mut self.err,
+                b"vectors: standard output cannot be written\n",
+            )
+        })
     }
 
     // A whole line. A stack of 17,000 bytes and the rest of its answer fit the page.
@@ -48,25 +49,23 @@ impl<'a, W: Write, E: Write> Answering<'a, W, E> {
     // One read: how many bytes it got.
     fn take_part<R: Read>(&mut self, input: &mut R) -> io::Result<usize> {
         let mut part = [0u8; 4096];
-        let got = input.read(&mut part);
-        match got {
-            Ok(n) => {
-                for byte in &part[..n] {
-                    self.take(*byte)?;
-                }
-            }
-            Err(_) => say(self.err, b"vectors: standard input cannot be read\n"),
+        let n = input.read(&mut part).inspect_err(|_| say(
+            &mut self.err,
+            b"vectors: standard input cannot be read\n",
+        ))?;
+        for byte in &part[..n] {
+            self.take(*byte)?;
         }
-        got
+        Ok(n)
     }
 }
 
 // Each line is answered, up to the end of the input; an `Err` where that can't be done, which standard error has. A last line needs no line feed, and an empty one
 // has no answer. A proved loop has to end, and nothing says that the input does: it counts up to a number that no run reaches.
-pub(crate) fn answer<R: Read, W: Write, E: Write>(
-    input: &mut R,
-    out: &mut W,
-    err: &mut E,
+pub(crate) fn answer<R: Read + Drop, W: Write + Drop, E: Write + Drop>(
+    mut input: R,
+    out: W,
+    err: E,
     line: &mut [u8],
 ) -> io::Result<()> {
     let mut answering = Answering {
@@ -75,7 +74,7 @@ pub(crate) fn answer<R: Read, W: Write, E: Write>(
         err,
     };
     for _ in 0..u64::MAX {
-        if answering.take_part(input)? == 0 {
+        if answering.take_part(&mut input)? == 0 {
             return answering.take(b'\n');
         }
     }
