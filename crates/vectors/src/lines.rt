@@ -22,7 +22,8 @@ impl<'a, W: Write, E: Write> Answering<'a, W, E> {
         })
     }
 
-    // A whole line. A stack of 17,000 bytes and the rest of its answer fit the page.
+    // A whole line. A stack of 17,000 bytes and the rest of its answer fit the page. Not inlined: so large a frame is then made for a line, and not for each byte.
+    #[inline(never)]
     fn answer(&mut self) -> io::Result<()> {
         let line = self.line.as_bytes();
         if let [b'\n'] | [b'#', ..] = line {
