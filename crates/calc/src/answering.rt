@@ -6,8 +6,8 @@ use std::io::{Read, Write};
 
 #[derive(Drop)]
 struct Answering<'a, W, E> {
-    out: &'a mut W,
-    err: &'a mut E,
+    out: W,
+    err: E,
     terminal: bool,
     stack: &'a mut [u8],
     depth: usize,
@@ -46,12 +46,12 @@ impl<'a, W: Write, E: Write> Sheet for Answering<'a, W, E> {
         }
         if self.out.write_all(text::first(&answer, done.out)).is_err() {
             say(
-                self.err,
+                &mut self.err,
                 b"calc: standard output cannot be written; nothing more was done\n",
             );
             self.going = false;
         }
-        say(self.err, text::first(&complaint, done.err));
+        say(&mut self.err, text::first(&complaint, done.err));
     }
 
     fn goes_on(&self) -> bool {
@@ -59,15 +59,15 @@ impl<'a, W: Write, E: Write> Sheet for Answering<'a, W, E> {
     }
 
     fn fail(&mut self) {
-        say(self.err, b"calc: standard input cannot be read\n");
+        say(&mut self.err, b"calc: standard input cannot be read\n");
         self.going = false;
     }
 }
 
-pub(crate) fn answer<R: Read, W: Write, E: Write>(
-    input: &mut R,
-    out: &mut W,
-    err: &mut E,
+pub(crate) fn answer<R: Read + Drop, W: Write + Drop, E: Write + Drop>(
+    mut input: R,
+    out: W,
+    err: E,
     terminal: bool,
     stack: &mut [u8],
     line: &mut [u8],
@@ -83,10 +83,10 @@ pub(crate) fn answer<R: Read, W: Write, E: Write>(
         going: true,
         owed: false,
     };
-    lines::follow(input, line, &mut answering);
+    lines::follow(&mut input, line, &mut answering);
     if answering.owed {
         say(
-            answering.err,
+            &mut answering.err,
             b"calc: the last line could not be read, and was not typed again\n",
         );
     }

@@ -25,9 +25,9 @@ fn main(rt: HostRuntime) {
     let mut line = [0u8; 65539];
     let terminal = rt.stdin().is_terminal();
     answering::answer(
-        &mut rt.stdin(),
-        &mut rt.stdout(),
-        &mut rt.stderr(),
+        rt.stdin(),
+        rt.stdout(),
+        rt.stderr(),
         terminal,
         &mut stack,
         &mut line,

@@ -5,7 +5,7 @@ use std::io::{Read, Write};
 
 #[derive(Drop)]
 struct Entering<'a, E> {
-    err: &'a mut E,
+    err: E,
     stack: &'a mut [u8],
     depth: usize,
     recording: &'a mut [u8],
@@ -37,7 +37,7 @@ impl<'a, E: Write> Sheet for Entering<'a, E> {
         self.end = done.end;
         self.number = self.number.wrapping_add(1);
         self.going = done.err == 0;
-        say(self.err, text::first(&complaint, done.err));
+        say(&mut self.err, text::first(&complaint, done.err));
     }
 
     fn goes_on(&self) -> bool {
@@ -46,7 +46,7 @@ impl<'a, E: Write> Sheet for Entering<'a, E> {
 
     fn fail(&mut self) {
         say(
-            self.err,
+            &mut self.err,
             b"record: standard input cannot be read; no recording was written\n",
         );
         self.going = false;
@@ -54,10 +54,10 @@ impl<'a, E: Write> Sheet for Entering<'a, E> {
 }
 
 // The recording is written when every line was taken.
-pub(crate) fn record<R: Read, W: Write, E: Write>(
-    input: &mut R,
-    out: &mut W,
-    err: &mut E,
+pub(crate) fn record<R: Read + Drop, W: Write + Drop, E: Write + Drop>(
+    mut input: R,
+    mut out: W,
+    err: E,
     stack: &mut [u8],
     line: &mut [u8],
     recording: &mut [u8],
@@ -71,10 +71,10 @@ pub(crate) fn record<R: Read, W: Write, E: Write>(
         number: 1,
         going: true,
     };
-    lines::follow(input, line, &mut entering);
+    lines::follow(&mut input, line, &mut entering);
     if entering.going && out.write_all(text::first(entering.recording, entering.end)).is_err() {
         say(
-            entering.err,
+            &mut entering.err,
             b"record: standard output cannot be written; the recording is not whole\n",
         );
     }

@@ -21,9 +21,9 @@ fn main(rt: HostRuntime) {
     let mut line = [0u8; 65539];
     let mut recording = [0u8; 64000];
     entering::record(
-        &mut rt.stdin(),
-        &mut rt.stdout(),
-        &mut rt.stderr(),
+        rt.stdin(),
+        rt.stdout(),
+        rt.stderr(),
         &mut stack,
         &mut line,
         &mut recording,
