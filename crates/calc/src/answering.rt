@@ -5,11 +5,11 @@ use standard::say;
 use std::io::{Read, Write};
 
 #[derive(Drop)]
-struct Answering<'a, W, E> {
+struct Answering<W, E> {
     out: W,
     err: E,
     terminal: bool,
-    stack: &'a mut [u8],
+    stack: [u8; 16000],
     depth: usize,
     // The edition that the sheet has named.
     edition: Edition,
@@ -21,13 +21,13 @@ struct Answering<'a, W, E> {
     owed: bool,
 }
 
-impl<'a, W: Write, E: Write> Sheet for Answering<'a, W, E> {
+impl<W: Write, E: Write> Sheet for Answering<W, E> {
     fn line(&mut self, line: &[u8]) {
         let mut answer = [0u8; 64];
         let mut complaint = [0u8; 256];
         let done = reply::answer_line(
             self.edition,
-            self.stack,
+            &mut self.stack,
             self.depth,
             self.going,
             line,
@@ -69,21 +69,21 @@ pub(crate) fn answer<R: Read + Drop, W: Write + Drop, E: Write + Drop>(
     out: W,
     err: E,
     terminal: bool,
-    stack: &mut [u8],
-    line: &mut [u8],
 ) {
+    // What stands before a line's comment has at most 65,535 bytes, and a byte-order mark three: one more tells a longer line.
+    let mut line = [0u8; 65539];
     let mut answering = Answering {
         out,
         err,
         terminal,
-        stack,
+        stack: [0; 16000],
         depth: 0,
         edition: edition::unnamed(),
         number: 1,
         going: true,
         owed: false,
     };
-    lines::follow(&mut input, line, &mut answering);
+    lines::follow(&mut input, &mut line, &mut answering);
     if answering.owed {
         say(
             &mut answering.err,

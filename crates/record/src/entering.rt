@@ -4,11 +4,11 @@ use standard::say;
 use std::io::{Read, Write};
 
 #[derive(Drop)]
-struct Entering<'a, E> {
+struct Entering<E> {
     err: E,
-    stack: &'a mut [u8],
+    stack: [u8; 16000],
     depth: usize,
-    recording: &'a mut [u8],
+    recording: [u8; 64000],
     // The place after the last record.
     end: usize,
     // The next line's.
@@ -17,7 +17,7 @@ struct Entering<'a, E> {
     going: bool,
 }
 
-impl<'a, E: Write> Sheet for Entering<'a, E> {
+impl<E: Write> Sheet for Entering<E> {
     // After a line that can't be taken, what was read with it is passed over.
     fn line(&mut self, line: &[u8]) {
         if !self.going {
@@ -25,11 +25,11 @@ impl<'a, E: Write> Sheet for Entering<'a, E> {
         }
         let mut complaint = [0u8; 256];
         let done = entry::record_line(
-            self.stack,
+            &mut self.stack,
             self.depth,
             line,
             self.number,
-            self.recording,
+            &mut self.recording,
             self.end,
             &mut complaint,
         );
@@ -58,21 +58,24 @@ pub(crate) fn record<R: Read + Drop, W: Write + Drop, E: Write + Drop>(
     mut input: R,
     mut out: W,
     err: E,
-    stack: &mut [u8],
-    line: &mut [u8],
-    recording: &mut [u8],
 ) {
+    // What stands before a line's comment has at most 65,535 bytes, and a byte-order mark three: one more tells a longer line.
+    let mut line = [0u8; 65539];
     let mut entering = Entering {
         err,
-        stack,
+        stack: [0; 16000],
         depth: 0,
-        recording,
+        recording: [0; 64000],
         end: 0,
         number: 1,
         going: true,
     };
-    lines::follow(&mut input, line, &mut entering);
-    if entering.going && out.write_all(text::first(entering.recording, entering.end)).is_err() {
+    lines::follow(&mut input, &mut line, &mut entering);
+    if entering.going
+        && out
+            .write_all(text::first(&entering.recording, entering.end))
+            .is_err()
+    {
         say(
             &mut entering.err,
             b"record: standard output cannot be written; the recording is not whole\n",

@@ -16,16 +16,5 @@
 mod entering;
 
 fn main(rt: HostRuntime) {
-    let mut stack = [0u8; 16000];
-    // What stands before a line's comment has at most 65,535 bytes, and a byte-order mark three: one more tells a longer line.
-    let mut line = [0u8; 65539];
-    let mut recording = [0u8; 64000];
-    entering::record(
-        rt.stdin(),
-        rt.stdout(),
-        rt.stderr(),
-        &mut stack,
-        &mut line,
-        &mut recording,
-    );
+    entering::record(rt.stdin(), rt.stdout(), rt.stderr());
 }

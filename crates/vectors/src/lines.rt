@@ -67,10 +67,10 @@ pub(crate) fn answer<R: Read + Drop, W: Write + Drop, E: Write + Drop>(
     mut input: R,
     out: W,
     err: E,
-    line: &mut [u8],
 ) -> io::Result<()> {
+    let mut line = [0u8; 65536];
     let mut answering = Answering {
-        line: Page::new(line),
+        line: Page::new(&mut line),
         out,
         err,
     };

@@ -19,7 +19,6 @@ mod lines;
 mod reading;
 
 fn main(rt: HostRuntime) {
-    let mut line = [0u8; 65536];
     // Where it stops early, standard error has said why.
-    let _ = lines::answer(rt.stdin(), rt.stdout(), rt.stderr(), &mut line);
+    let _ = lines::answer(rt.stdin(), rt.stdout(), rt.stderr());
 }
