@@ -1,12 +1,11 @@
 -- A5, what `record` writes: for lines of a sheet that are all taken, it is the recording of their steps, and its replay agrees with all of it.
-use Rattle.std.specs.Prelude.{ℕ, ◌≤◌, ◌≡◌, refl, true, List, length}
+use Rattle.std.specs.Prelude.{Ok, Err, ℕ, ◌≤◌, ◌≡◌, refl, true, List, length}
 use Rattle.std.proofs.Common.{ap, arith, length-take}
 use Rattle.text.specs.Put.{Text, before}
 use Rattle.slots.specs.Slots.{bytes_of}
-use Rattle.sheet.specs.declared.meaning.Line.{Line}
-use Rattle.sheet.specs.declared.meaning.Line.TheVariants.{Nothing, Push, Literal, Named, Unreadable}
+use Rattle.sheet.specs.declared.meaning.Step.TheVariants.{Nothing, Push, Literal, Named}
 use Rattle.words.specs.Blanks.{told_of}
-use Rattle.sheet.specs.Line.{line_of}
+use Rattle.sheet.specs.Line.{Line, line_of}
 use Rattle.replaying.specs.declared.answer.Verdict.TheVariants.{Agree}
 use Rattle.replaying.specs.Replay.{replay_of}
 use Rattle.replaying.specs.Made.{Step, recording_of}
@@ -19,11 +18,11 @@ use Rattle.demands.specs.Recorded.{All, empty, also, left_by, recording_length, 
 -- every step of theirs can be recorded
 and_one : (said : Line) (end : ℕ) {xs : List Step} → is_taken (why_not said end) ≡ true → All xs → All (and_step said xs)
 unfolding and_step bytes_of
-and_one Nothing end e a = a
-and_one (Push n) end e a = also refl a
-and_one (Literal l) end e a = also (no_zero l end e).0 a
-and_one (Named v) end e a = a
-and_one (Unreadable f) end e a = a
+and_one (Ok Nothing) end e a = a
+and_one (Ok (Push n)) end e a = also refl a
+and_one (Ok (Literal l)) end e a = also (no_zero l end e).0 a
+and_one (Ok (Named v)) end e a = a
+and_one (Err f) end e a = a
 
 recordable : {ls : List (ℕ × List ℕ)} {s : List ℕ} {d : ℕ} {t : Text} {k : Kept} → Taking ls s d t k → All (steps_of ls)
 unfolding steps_of

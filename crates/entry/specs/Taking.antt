@@ -1,14 +1,13 @@
 -- Lines that are taken one after the other: what stands before the place is then the recording of their steps.
-use Rattle.std.specs.Prelude.{ℕ, ◌≤◌, ◌≡◌, true, length}
+use Rattle.std.specs.Prelude.{Ok, Err, ℕ, ◌≤◌, ◌≡◌, true, length}
 use Rattle.std.proofs.Math.Path.{refl, ap}
 use Rattle.std.proofs.Common.{sym, ◌∙◌}
 use mathlib.Core.List.{List, [], ◌∷◌, ◌++◌, append-nil, append_assoc}
 use Rattle.text.specs.Put.{Text, before, puts_length}
 use Rattle.slots.specs.Slots.{bytes_of}
-use Rattle.sheet.specs.declared.meaning.Line.{Line}
-use Rattle.sheet.specs.declared.meaning.Line.TheVariants.{Nothing, Push, Literal, Named, Unreadable}
+use Rattle.sheet.specs.declared.meaning.Step.TheVariants.{Nothing, Push, Literal, Named}
 use Rattle.words.specs.Blanks.{told_of}
-use Rattle.sheet.specs.Line.{line_of}
+use Rattle.sheet.specs.Line.{Line, line_of}
 use Rattle.replaying.specs.Made.{Step, push, literal, done_by, record_of, recording_of}
 use Rattle.reasons.specs.Complaint.{why_not, is_taken, has_room, no_zero}
 use Rattle.entry.specs.Entry.{Kept, step_kept, said_kept, line_recorded}
@@ -16,11 +15,11 @@ use Rattle.entry.specs.Room.{push_long, literal_long, record_whole, taken, as_sa
 
 -- the steps of lines with their numbers: a line adds its own, if it has one, to those after it
 unfoldable pub and_step : Line → List Step → List Step
-and_step Nothing xs = xs
-and_step (Push n) xs = push (bytes_of n) ∷ xs
-and_step (Literal l) xs = literal l ∷ xs
-and_step (Named e) xs = xs
-and_step (Unreadable f) xs = xs
+and_step (Ok Nothing) xs = xs
+and_step (Ok (Push n)) xs = push (bytes_of n) ∷ xs
+and_step (Ok (Literal l)) xs = literal l ∷ xs
+and_step (Ok (Named e)) xs = xs
+and_step (Err f) xs = xs
 
 unfoldable pub steps_of : List (ℕ × List ℕ) → List Step
 steps_of [] = []
@@ -38,11 +37,11 @@ pub data Taking : List (ℕ × List ℕ) → List ℕ → ℕ → Text → Kept 
 module _ (s : List ℕ) (d : ℕ) (t : Text) where
   same_length : (said : Line) → length (said_kept s d t said).2.0 ≡ length t.0
   unfolding said_kept
-  same_length Nothing = refl
-  same_length (Push n) = puts_length t _
-  same_length (Literal l) = puts_length t _
-  same_length (Named e) = refl
-  same_length (Unreadable f) = refl
+  same_length (Ok Nothing) = refl
+  same_length (Ok (Push n)) = puts_length t _
+  same_length (Ok (Literal l)) = puts_length t _
+  same_length (Ok (Named e)) = refl
+  same_length (Err f) = refl
 
   module _ (h : length t.0 ≡ 64000) (r : List ℕ) (xs : List Step) where
     step : (x : Step) → length (record_of x (done_by s d x)) ≡ 16 → t.1 ≤ 63984
@@ -57,11 +56,11 @@ module _ (s : List ℕ) (d : ℕ) (t : Text) where
         → r ≡ before (said_kept s d t said).2 ++ recording_of xs (said_kept s d t said).0 (said_kept s d t said).1
         → r ≡ before t ++ recording_of (and_step said xs) s d
     unfolding said_kept and_step recording_of why_not
-    ahead Nothing e q = q
-    ahead (Push n) e q = let x = push (bytes_of n) in step x (push_long n _) (has_room t.1 e) q
-    ahead (Literal l) e q = step (literal l) (literal_long l _) (has_room t.1 (no_zero l t.1 e).1) q
-    ahead (Named v) e q = q
-    ahead (Unreadable f) e q = q
+    ahead (Ok Nothing) e q = q
+    ahead (Ok (Push n)) e q = let x = push (bytes_of n) in step x (push_long n _) (has_room t.1 e) q
+    ahead (Ok (Literal l)) e q = step (literal l) (literal_long l _) (has_room t.1 (no_zero l t.1 e).1) q
+    ahead (Ok (Named v)) e q = q
+    ahead (Err f) e q = q
 
 pub taken_recording : {ls : List (ℕ × List ℕ)} {s : List ℕ} {d : ℕ} {t : Text} {k : Kept} → Taking ls s d t k → length t.0 ≡ 64000
     → before k.2 ≡ before t ++ recording_of (steps_of ls) s d

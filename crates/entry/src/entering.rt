@@ -3,6 +3,7 @@ ghost use Rattle.std.specs.Prelude.{◌≡◌};
 ghost use Rattle.entry.specs.Entry.{line_recorded};
 
 use crate::records;
+use text::Page;
 
 // The depth after a line, the place after its record, and how much was put for standard error: nothing where the line was taken.
 #[derive(Clone, Copy)]
@@ -12,6 +13,7 @@ pub struct Recorded {
     pub err: usize,
 }
 
+#[tactic(auto, unfolding(crate::specs::Entry::line_recorded, crate::specs::Entry::recorded_by))]
 pub fn record_line(
     stack: &mut [u8],
     depth: usize,
@@ -26,18 +28,24 @@ pub fn record_line(
 {
     let told = sheet::told(line, number);
     let said = sheet::line_of(told);
-    let why = reasons::why_not(said, end);
-    if reasons::is_taken(why) {
-        let kept = records::record_step(stack, depth, said, recording, end);
-        return Recorded {
-            depth: kept.depth,
-            end: kept.end,
-            err: 0,
-        };
-    }
-    Recorded {
-        depth,
-        end,
-        err: reasons::put_complaint(err, number, sheet::trimmed(told), why),
+    match reasons::why_not(said, end) {
+        None => {
+            let mut page = Page::after(recording, end);
+            let depth = records::record_step(stack, depth, said, &mut page);
+            Recorded {
+                depth,
+                end: page.len(),
+                err: 0,
+            }
+        }
+        Some(why) => {
+            let mut complaint = Page::new(err);
+            reasons::put_complaint(&mut complaint, number, sheet::trimmed(told), why);
+            Recorded {
+                depth,
+                end,
+                err: complaint.len(),
+            }
+        }
     }
 }

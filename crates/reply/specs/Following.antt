@@ -1,31 +1,28 @@
 -- One line of a sheet, from its number, the stack, the depth and the edition to what it writes and what it leaves.
-use Rattle.std.specs.Prelude.{ℕ, ◌≡◌, Bool, true, false, List, []}
+use Rattle.std.specs.Prelude.{Ok, Err, ℕ, Bool, true, false, List, []}
 use Rattle.text.specs.Put.{Text, puts_of}
 use Rattle.edition.specs.declared.Edition.{Edition}
-use Rattle.slots.specs.declared.outcome.Outcome.{Outcome}
-use Rattle.slots.specs.View.{view_of}
-use Rattle.sheet.specs.declared.meaning.Line.{Line}
-use Rattle.sheet.specs.declared.meaning.Line.TheVariants.{Nothing, Push, Literal, Named, Unreadable}
+use Rattle.sheet.specs.declared.meaning.Step.TheVariants.{Nothing, Push, Literal, Named}
 use Rattle.words.specs.Blanks.{told_of, trimmed}
-use Rattle.sheet.specs.Line.{line_of}
+use Rattle.sheet.specs.Line.{Line, line_of}
 use Rattle.reply.specs.Step.{step_of, edition_after}
-use Rattle.reply.specs.Answer.{answer_of, written_of, complaint_of}
+use Rattle.reply.specs.Answer.{written_of, complaint_of}
 
 -- what standard error has of a line
 unfoldable pub said_of : Bool → ℕ → List ℕ → Line → List ℕ
-said_of terminal number text Nothing = []
-said_of terminal number text (Push n) = []
-said_of terminal number text (Literal l) = []
-said_of terminal number text (Named e) = []
-said_of terminal number text (Unreadable f) = complaint_of terminal number text f
+said_of terminal number text (Ok Nothing) = []
+said_of terminal number text (Ok (Push n)) = []
+said_of terminal number text (Ok (Literal l)) = []
+said_of terminal number text (Ok (Named e)) = []
+said_of terminal number text (Err f) = complaint_of terminal number text f
 
 -- whether another step may be done after a line: not after one that can't be read, unless it can be typed again
 unfoldable pub goes_on : Bool → Line → Bool
-goes_on terminal Nothing = true
-goes_on terminal (Push n) = true
-goes_on terminal (Literal l) = true
-goes_on terminal (Named e) = true
-goes_on terminal (Unreadable f) = terminal
+goes_on terminal (Ok Nothing) = true
+goes_on terminal (Ok (Push n)) = true
+goes_on terminal (Ok (Literal l)) = true
+goes_on terminal (Ok (Named e)) = true
+goes_on terminal (Err f) = terminal
 
 -- the stack, the depth and the edition after it, whether another step may be done, and what is put for standard output and for standard error into buffers lent for it
 abbrev pub Left : Type 0
@@ -46,11 +43,3 @@ unfoldable pub line_left : Bool → Bool → Edition → List ℕ → ℕ → �
 line_left terminal true ed s d number line out err =
     left_by terminal ed s d number (trimmed (told_of number line)) out err (line_of (told_of number line))
 line_left terminal false ed s d number line out err = (s, d, ed, false, (out, 0), (err, 0))
-
--- a line that is done, by its parts
-pub line_done : (terminal : Bool) {going : Bool} (ed : Edition) (s : List ℕ) (d number : ℕ) (line out err : List ℕ) {told text top left : List ℕ} {said : Line} {done : Outcome} {after : Edition} {goes : Bool}
-    {put complained : Text} → going ≡ true → told ≡ told_of number line → said ≡ line_of told → text ≡ trimmed told → step_of ed s d said ≡ (done, left) → top ≡ view_of left done.depth
-    → put ≡ puts_of (out, 0) (answer_of number said done.report done.depth top) → complained ≡ puts_of (err, 0) (said_of terminal number text said)
-    → goes ≡ goes_on terminal said → after ≡ edition_after ed said → (left, done.depth, after, goes, put, complained) ≡ line_left terminal going ed s d number line out err
-unfolding line_left
-line_done terminal ed s d number line out err going told said text step top put complained goes after = rw (put, complained, goes, after, top, text, going) (simp (← told, ← said, step))

@@ -1,5 +1,5 @@
 -- Buffers of 64 and 256 bytes have room for all that a line writes: what stands in them is the answer and the complaint, whole.
-use Rattle.std.specs.Prelude.{ℕ, ◌≤◌, ◌≡◌, Bool, true, false, List, [], ◌∷◌, ◌++◌, length}
+use Rattle.std.specs.Prelude.{Ok, Err, ℕ, ◌≤◌, ◌≡◌, Bool, true, false, List, [], ◌∷◌, ◌++◌, length}
 use Rattle.std.proofs.Common.{arith, length-append}
 use Rattle.text.specs.Ascii.{ascii}
 use Rattle.text.specs.Put.{before, puts_whole}
@@ -8,9 +8,8 @@ use Rattle.edition.specs.declared.Edition.{Edition}
 use Rattle.slots.specs.View.{view_of}
 use Rattle.slots.specs.ViewLaws.{view_length}
 use Rattle.words.specs.Blanks.{told_of, trimmed}
-use Rattle.sheet.specs.Line.{line_of}
-use Rattle.sheet.specs.declared.meaning.Line.{Line}
-use Rattle.sheet.specs.declared.meaning.Line.TheVariants.{Nothing, Push, Literal, Named, Unreadable}
+use Rattle.sheet.specs.Line.{Line, line_of}
+use Rattle.sheet.specs.declared.meaning.Step.TheVariants.{Nothing, Push, Literal, Named}
 use Rattle.sheet.specs.declared.meaning.Fault.{Fault}
 use Rattle.wording.specs.Wording.{fault_of, place_of}
 use Rattle.wording.specs.Room.{step_room, fault_length, place_length}
@@ -20,11 +19,11 @@ use Rattle.reply.specs.Following.{said_of, Left, line_left}
 
 answer_room : (number : ℕ) (said : Line) (report depth : ℕ) (top : List ℕ) → length top ≤ 5 → length (answer_of number said report depth top) ≤ 64
 unfolding answer_of
-answer_room number Nothing report depth top h = omega arith
-answer_room number (Push n) report depth top h = step_room report depth top h
-answer_room number (Literal l) report depth top h = step_room report depth top h
-answer_room number (Named e) report depth top h = omega arith
-answer_room number (Unreadable f) report depth top h =
+answer_room number (Ok Nothing) report depth top h = omega arith
+answer_room number (Ok (Push n)) report depth top h = step_room report depth top h
+answer_room number (Ok (Literal l)) report depth top h = step_room report depth top h
+answer_room number (Ok (Named e)) report depth top h = omega arith
+answer_room number (Err f) report depth top h =
     let a = ascii "? line " ++ decimal_of number in
     omega (arith, length-append (ascii "? line ") (decimal_of number), length-append a (10 ∷ []), digits_length 19 number)
 
@@ -42,12 +41,12 @@ complaint_length first number text f last h g =
 
 said_room : (terminal : Bool) (number : ℕ) (text : List ℕ) (said : Line) → length (said_of terminal number text said) ≤ 256
 unfolding said_of complaint_of
-said_room terminal number text Nothing = omega arith
-said_room terminal number text (Push n) = omega arith
-said_room terminal number text (Literal l) = omega arith
-said_room terminal number text (Named e) = omega arith
-said_room true number text (Unreadable f) = complaint_length (ascii "line ") number text f (ascii "; type it again\n") (omega arith) (omega arith)
-said_room false number text (Unreadable f) =
+said_room terminal number text (Ok Nothing) = omega arith
+said_room terminal number text (Ok (Push n)) = omega arith
+said_room terminal number text (Ok (Literal l)) = omega arith
+said_room terminal number text (Ok (Named e)) = omega arith
+said_room true number text (Err f) = complaint_length (ascii "line ") number text f (ascii "; type it again\n") (omega arith) (omega arith)
+said_room false number text (Err f) =
     complaint_length (ascii "calc: line ") number text f (ascii "; nothing from this line on was done\n") (omega arith) (omega arith)
 
 -- a line that is done

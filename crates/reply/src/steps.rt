@@ -3,39 +3,31 @@ ghost use Rattle.std.specs.Prelude.{◌≡◌};
 ghost use Rattle.reply.specs.Step.{step_of, edition_after};
 
 use calculator::{Edition, Outcome};
-use sheet::Line;
+use sheet::{Fault, Step};
 
-pub(crate) fn step(edition: Edition, stack: &mut [u8], depth: usize, said: Line) -> Outcome
+#[tactic(auto, unfolding(crate::specs::Step::step_of, slots::specs::Slots::bytes_of))]
+pub(crate) fn step(
+    edition: Edition,
+    stack: &mut [u8],
+    depth: usize,
+    said: Result<Step, Fault>,
+) -> Outcome
     ensures { step_of edition stack.old depth said ≡ (result, stack.new) }
 {
     match said {
-        Line::Push(n) => {
-            let w = n.word;
-            let five = [
-                n.b1,
-                (w / 16777216) as u8,
-                (w / 65536 % 256) as u8,
-                (w / 256 % 256) as u8,
-                (w % 256) as u8,
-            ];
-            calculator::push(stack, depth, &five)
-        }
-        Line::Literal(l) => calculator::operate_in(edition, stack, depth, l),
-        Line::Nothing => Outcome { report: 0, depth },
-        Line::Named(_) => Outcome { report: 0, depth },
-        Line::Unreadable(_) => Outcome { report: 0, depth },
+        Ok(Step::Push(number)) => calculator::push(stack, depth, &number.to_bytes()),
+        Ok(Step::Literal(literal)) => calculator::operate_in(edition, stack, depth, literal),
+        Ok(Step::Nothing | Step::Named(_)) | Err(_) => Outcome { report: 0, depth },
     }
 }
 
 // The edition from here on.
-pub(crate) fn edition_after(edition: Edition, said: Line) -> Edition
+#[tactic(auto, unfolding(crate::specs::Step::edition_after))]
+pub(crate) fn edition_after(edition: Edition, said: Result<Step, Fault>) -> Edition
     ensures { result ≡ edition_after edition said }
 {
     match said {
-        Line::Nothing => edition,
-        Line::Push(_) => edition,
-        Line::Literal(_) => edition,
-        Line::Named(named) => named,
-        Line::Unreadable(_) => edition,
+        Ok(Step::Named(named)) => named,
+        _ => edition,
     }
 }

@@ -1,13 +1,14 @@
 -- What a line says, by what stands before its comment.
-use Rattle.std.specs.Prelude.{ℕ, ◌+◌, ◌<◌, ◌≤◌, ◌≡◌, Bool, true, false, cond, ◌&&◌, List, [], ◌∷◌, eqb, ltb, leb, length, drop, get_or}
+use Rattle.std.specs.Prelude.{ℕ, ◌+◌, ◌<◌, ◌≤◌, ◌≡◌, Result, Ok, Err, Bool, true, false, cond, ◌&&◌, List, [], ◌∷◌, eqb, ltb, leb, length, drop, get_or}
 use Rattle.std.proofs.Common.{arith, drop_of_length-le, drop-cons}
 use Rattle.std.proofs.Math.Numerals.{add-one}
 use borrow.Author.Tests.{lt-ltb, le-ltb, lt-leb, le-leb}
 use Rattle.edition.specs.declared.Edition.TheVariants.{Shipped, Mended}
 use Rattle.number.specs.Number.{short_of}
 use Rattle.text.specs.Ascii.{ascii}
-use Rattle.sheet.specs.declared.meaning.Line.{Line}
-use Rattle.sheet.specs.declared.meaning.Line.TheVariants.{Nothing, Push, Literal, Named, Unreadable}
+use Rattle.sheet.specs.declared.meaning.Step.{Step}
+use Rattle.sheet.specs.declared.meaning.Step.TheVariants.{Nothing, Push, Literal, Named}
+use Rattle.sheet.specs.declared.meaning.Fault.{Fault}
 use Rattle.sheet.specs.declared.meaning.Fault.TheVariants.{LongLine, BareNumber, BadPush, BadLiteral, BadEdition}
 use Rattle.words.specs.Blanks.{trimmed}
 use Rattle.words.specs.After.{after}
@@ -15,20 +16,24 @@ use Rattle.sheet.specs.Decimal.{decimal_in}
 use Rattle.naming.specs.Names.{literal_of, edition_of}
 use Rattle.sheet.specs.Numbers.{number_from}
 
+-- the step that a line says, or why it can't be read
+abbrev pub Line : Type 0
+Line = Result Step Fault
+
 -- a whole number from -65,535 to 65,535, as the short number with b5 = 0; `-` is 45 in ASCII
 unfoldable pub short_pushed : ℕ → ℕ → Line
-short_pushed s v = cond (ltb 65535 v) (Unreadable BadPush) (Push (short_of (cond (eqb v 0) 0 s) v))
+short_pushed s v = cond (ltb 65535 v) (Err BadPush) (Ok (Push (short_of (cond (eqb v 0) 0 s) v)))
 
 unfoldable pub pushed : List ℕ → Line
 pushed s = cond (eqb (get_or s 0 0) 45) (short_pushed 1 (decimal_in 65535 (drop 1 s))) (short_pushed 0 (decimal_in 65535 s))
 
 -- a literal by its number
 unfoldable pub numbered : List ℕ → Line
-numbered s = cond (ltb 255 (decimal_in 255 s)) (Unreadable BadLiteral) (Literal (decimal_in 255 s))
+numbered s = cond (ltb 255 (decimal_in 255 s)) (Err BadLiteral) (Ok (Literal (decimal_in 255 s)))
 
 -- an edition by its name
 unfoldable pub named : List ℕ → Line
-named s = cond (eqb (edition_of s) 0) (Named Shipped) (cond (eqb (edition_of s) 1) (Named Mended) (Unreadable BadEdition))
+named s = cond (eqb (edition_of s) 0) (Ok (Named Shipped)) (cond (eqb (edition_of s) 1) (Ok (Named Mended)) (Err BadEdition))
 
 -- a number alone: digits and + , - . / are 43 to 57 in ASCII
 unfoldable pub bare : List ℕ → Bool
@@ -56,11 +61,11 @@ module _ (s : List ℕ) (i : ℕ) where
 
 -- one word, or five bytes
 unfoldable pub plain : List ℕ → Line
-plain s = cond (ltb (literal_of s) 256) (Literal (literal_of s)) (cond (bare s) (Unreadable BareNumber) (number_from 0 0 s))
+plain s = cond (ltb (literal_of s) 256) (Ok (Literal (literal_of s))) (cond (bare s) (Err BareNumber) (number_from 0 0 s))
 
 unfoldable pub said : List ℕ → Line
 said s =
-    cond (eqb (length s) 0) Nothing
+    cond (eqb (length s) 0) (Ok Nothing)
     (cond (ltb 0 (length (after (ascii "push") s))) (pushed (after (ascii "push") s))
     (cond (ltb 0 (length (after (ascii "literal") s))) (numbered (after (ascii "literal") s))
     (cond (ltb 0 (length (after (ascii "edition") s))) (named (after (ascii "edition") s))
@@ -68,4 +73,4 @@ said s =
 
 -- what stands before the comment has at most 65,535 bytes
 unfoldable pub line_of : List ℕ → Line
-line_of told = cond (ltb 65535 (length told)) (Unreadable LongLine) (said (trimmed told))
+line_of told = cond (ltb 65535 (length told)) (Err LongLine) (said (trimmed told))

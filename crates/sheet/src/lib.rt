@@ -6,6 +6,6 @@ mod meaning;
 mod numbers;
 mod reading;
 
-pub use meaning::{Fault, Line};
+pub use meaning::{Fault, Step};
 pub use reading::line_of;
 pub use words::{told, trimmed};

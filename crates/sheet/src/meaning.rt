@@ -3,14 +3,13 @@ use edition::Edition;
 use number::Number;
 
 #[derive(Clone, Copy)]
-pub enum Line {
+pub enum Step {
     // Blank, or a comment.
     Nothing,
     Push(Number),
     Literal(u8),
     // The edition of the literals from here on.
     Named(Edition),
-    Unreadable(Fault),
 }
 
 // Why a line can't be read.

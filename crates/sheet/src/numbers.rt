@@ -2,11 +2,11 @@
 ghost use Rattle.std.specs.Prelude.{◌≡◌};
 ghost use Rattle.sheet.specs.Numbers.{number_from};
 
-use crate::meaning::{Fault, Line};
+use crate::meaning::{Fault, Step};
 use number::Number;
 use words::is_blank;
 
-pub(crate) fn number_of(text: &[u8]) -> Line
+pub(crate) fn number_of(text: &[u8]) -> Result<Step, Fault>
     ensures { result ≡ number_from 0 0 text.now }
 {
     let n = text.len();
@@ -20,26 +20,26 @@ pub(crate) fn number_of(text: &[u8]) -> Line
         i += 1;
         if d < 16 {
             if k % 3 == 2 {
-                return Line::Unreadable(Fault::NoStep);
+                return Err(Fault::NoStep);
             }
             k += 1;
             v = 16 * (v % 68719476736) + d;
             continue;
         }
         if k % 3 == 1 {
-            return Line::Unreadable(Fault::NoStep);
+            return Err(Fault::NoStep);
         }
         if is_blank(c) {
             k = 3 * ((k + 1) / 3);
         } else {
-            return Line::Unreadable(Fault::NoStep);
+            return Err(Fault::NoStep);
         }
     }
     if k == 14 {
-        return Line::Push(Number {
+        return Ok(Step::Push(Number {
             word: (v % 4294967296) as u32,
             b1: (v / 4294967296) as u8,
-        });
+        }));
     }
-    Line::Unreadable(Fault::NoStep)
+    Err(Fault::NoStep)
 }

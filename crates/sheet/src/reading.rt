@@ -3,32 +3,32 @@ ghost use Rattle.std.specs.Prelude.{◌≡◌, ◌<◌, length};
 ghost use Rattle.sheet.specs.Line.{short_pushed, pushed, numbered, named, bare, plain, said, line_of};
 
 use crate::decimal::decimal_in;
-use crate::meaning::{Fault, Line};
+use crate::meaning::{Fault, Step};
 use crate::numbers;
 use edition::Edition;
 use number::Number;
 use words::after;
 
 // A magnitude over 65,535 stands for none. Zero has no sign.
-fn short_pushed(sign: u8, v: u32) -> Line
+fn short_pushed(sign: u8, v: u32) -> Result<Step, Fault>
     ensures { result ≡ short_pushed sign v }
 {
     if 65535 < v {
-        return Line::Unreadable(Fault::BadPush);
+        return Err(Fault::BadPush);
     }
     if v == 0 {
-        return Line::Push(Number {
+        return Ok(Step::Push(Number {
             word: number::short_word(0, v as u16),
             b1: 0,
-        });
+        }));
     }
-    Line::Push(Number {
+    Ok(Step::Push(Number {
         word: number::short_word(sign, v as u16),
         b1: 0,
-    })
+    }))
 }
 
-fn pushed(text: &[u8]) -> Line
+fn pushed(text: &[u8]) -> Result<Step, Fault>
     requires { 0 < length text.now }
     ensures { result ≡ pushed text.now }
 {
@@ -38,27 +38,27 @@ fn pushed(text: &[u8]) -> Line
     short_pushed(0, decimal_in(65535, text))
 }
 
-fn numbered(text: &[u8]) -> Line
+fn numbered(text: &[u8]) -> Result<Step, Fault>
     ensures { result ≡ numbered text.now }
 {
     let v = decimal_in(255, text);
     if 255 < v {
-        return Line::Unreadable(Fault::BadLiteral);
+        return Err(Fault::BadLiteral);
     }
-    Line::Literal(v as u8)
+    Ok(Step::Literal(v as u8))
 }
 
-fn named(text: &[u8]) -> Line
+fn named(text: &[u8]) -> Result<Step, Fault>
     ensures { result ≡ named text.now }
 {
     let n = naming::edition_of(text);
     if n == 0 {
-        return Line::Named(Edition::Shipped);
+        return Ok(Step::Named(Edition::Shipped));
     }
     if n == 1 {
-        return Line::Named(Edition::Mended);
+        return Ok(Step::Named(Edition::Mended));
     }
-    Line::Unreadable(Fault::BadEdition)
+    Err(Fault::BadEdition)
 }
 
 // Digits and + , - . / alone.
@@ -81,24 +81,24 @@ fn is_bare(text: &[u8]) -> bool
 }
 
 // One word, or five bytes.
-fn plain(text: &[u8]) -> Line
+fn plain(text: &[u8]) -> Result<Step, Fault>
     ensures { result ≡ plain text.now }
 {
     let literal = naming::literal_of(text);
     if literal < 256 {
-        return Line::Literal(literal as u8);
+        return Ok(Step::Literal(literal as u8));
     }
     if is_bare(text) {
-        return Line::Unreadable(Fault::BareNumber);
+        return Err(Fault::BareNumber);
     }
     numbers::number_of(text)
 }
 
-fn said(text: &[u8]) -> Line
+fn said(text: &[u8]) -> Result<Step, Fault>
     ensures { result ≡ said text.now }
 {
     if text.len() == 0 {
-        return Line::Nothing;
+        return Ok(Step::Nothing);
     }
     let to_push = after(text, b"push");
     if 0 < to_push.len() {
@@ -115,11 +115,11 @@ fn said(text: &[u8]) -> Line
     plain(text)
 }
 
-pub fn line_of(told: &[u8]) -> Line
+pub fn line_of(told: &[u8]) -> Result<Step, Fault>
     ensures { result ≡ line_of told.now }
 {
     if 65535 < told.len() {
-        return Line::Unreadable(Fault::LongLine);
+        return Err(Fault::LongLine);
     }
     said(words::trimmed(told))
 }
