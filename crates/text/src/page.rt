@@ -59,4 +59,12 @@ impl<'a> Page<'a> {
             self.put(*byte);
         }
     }
+
+    // Nothing is written any more.
+    pub fn clear(&mut self)
+        ensures same_slice { self.new.bytes.ghost_name ≡ self.old.bytes.ghost_name }
+        ensures empty { written self.new ≡ ((written self.old).0, 0) }
+    {
+        self.len = 0;
+    }
 }
