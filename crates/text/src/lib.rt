@@ -5,8 +5,6 @@ mod decimal;
 mod digit;
 mod hexadecimal;
 mod page;
-mod place;
 
 pub use hexadecimal::value_of;
-pub use page::Page;
-pub use place::{first, put, put_all, put_decimal, put_each, put_hexes};
+pub use page::{Page, first};
