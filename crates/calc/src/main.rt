@@ -17,19 +17,9 @@
 
 use std::io::IsTerminal;
 
-mod following;
+mod answering;
 
 fn main(rt: HostRuntime) {
-    let mut stack = [0u8; 16000];
-    // What stands before a line's comment has at most 65,535 bytes, and a byte-order mark three: one more tells a longer line.
-    let mut line = [0u8; 65539];
     let terminal = rt.stdin().is_terminal();
-    following::follow(
-        &mut rt.stdin(),
-        &mut rt.stdout(),
-        &mut rt.stderr(),
-        terminal,
-        &mut stack,
-        &mut line,
-    );
+    answering::answer(rt.stdin(), rt.stdout(), rt.stderr(), terminal);
 }

@@ -1,21 +1,14 @@
 -- One line of a sheet, from its number, the stack, the depth and the recording so far to what it leaves of them, or to what is wrong with it.
-use Rattle.std.specs.Prelude.{Ok, Err, ℕ, ◌≡◌, true, false, cond, List, eqb, length}
-use Rattle.edition.specs.declared.Edition.TheVariants.{Shipped}
+use Rattle.std.specs.Prelude.{Ok, Err, Option, None, Some, ℕ, cond, List, eqb, length}
 use Rattle.text.specs.Put.{Text, puts_of}
-use Rattle.number.specs.declared.Number.{Number}
-use Rattle.slots.specs.Outcome.{Outcome}
 use Rattle.slots.specs.Slots.{bytes_of}
-use Rattle.slots.specs.Push.{push_of}
-use Rattle.slots.specs.View.{view_of}
-use Rattle.literals.specs.Operate.{operate_of}
 use Rattle.sheet.specs.declared.meaning.Step.TheVariants.{Nothing, Push, Literal, Named}
 use Rattle.words.specs.Blanks.{told_of, trimmed}
 use Rattle.sheet.specs.Line.{Line, line_of}
 use Rattle.recording.specs.Recording.{zeros}
-use Rattle.replaying.specs.Replay.{top_of}
-use Rattle.replaying.specs.Made.{Step, push, literal, done_by, record_with, record_of}
+use Rattle.replaying.specs.Made.{Step, push, literal, done_by, record_of}
 use Rattle.reasons.specs.declared.why.Why.{Why}
-use Rattle.reasons.specs.Complaint.{why_not, is_taken, complaint_of}
+use Rattle.reasons.specs.Complaint.{why_not, complaint_of}
 
 -- "the top slot after (..; zeros at depth 0)"
 unfoldable pub five_of : List ℕ → List ℕ
@@ -37,33 +30,12 @@ said_kept s d t (Ok (Literal l)) = step_kept s d t (literal l)
 said_kept s d t (Ok (Named e)) = (s, d, t)
 said_kept s d t (Err f) = (s, d, t)
 
--- by its parts
-module _ (s : List ℕ) (d : ℕ) (t : Text) {said : Line} {o : Outcome} {s' : List ℕ} {u : Text} where
-  pub push_kept : (n : Number) → said ≡ Ok (Push n) → push_of s d (bytes_of n) ≡ (o, s') → u ≡ puts_of t (record_with 0 o.report o.depth (five_of (bytes_of n)))
-      → (s', o.depth, u) ≡ said_kept s d t said
-  unfolding said_kept done_by record_of five_of bytes_of
-  push_kept n q e f = rw (q, f) (simp e)
-
-  pub literal_kept : {l : ℕ} {top : List ℕ} → said ≡ Ok (Literal l) → operate_of Shipped s d l ≡ (o, s') → top ≡ view_of s' o.depth
-      → u ≡ puts_of t (record_with l o.report o.depth (five_of top)) → (s', o.depth, u) ≡ said_kept s d t said
-  unfolding said_kept done_by record_of top_of five_of
-  literal_kept q e g f = rw (q, f, g) (simp e)
-
 -- A line that is taken says nothing on standard error; another leaves all as it was.
+unfoldable pub recorded_by : List ℕ → ℕ → ℕ → List ℕ → Text → List ℕ → Option Why → Kept × Text
+recorded_by s d number told t err None = (said_kept s d t (line_of told), (err, 0))
+recorded_by s d number told t err (Some why) = ((s, d, t), puts_of (err, 0) (complaint_of number (trimmed told) why))
+
 unfoldable pub line_recorded : List ℕ → ℕ → ℕ → List ℕ → Text → List ℕ → Kept × Text
 line_recorded s d number line t err =
     let told = told_of number line in
-    let why = why_not (line_of told) t.1 in
-    cond (is_taken why) (said_kept s d t (line_of told), (err, 0)) ((s, d, t), puts_of (err, 0) (complaint_of number (trimmed told) why))
-
--- by its parts: a line that is taken, and one that is not
-module _ (s : List ℕ) (d number : ℕ) (line : List ℕ) (t : Text) (err : List ℕ) {told : List ℕ} {said : Line} {why : Why}
-    (a : told ≡ told_of number line) (b : said ≡ line_of told) (w : why ≡ why_not said t.1) where
-  pub line_taken : {kept : Kept} → is_taken why ≡ true → kept ≡ said_kept s d t said → (kept, (err, 0)) ≡ line_recorded s d number line t err
-  unfolding line_recorded
-  line_taken e k = rw k (simp (← a, ← b, ← w, e))
-
-  pub line_left_lem : {text : List ℕ} {complained : Text} → is_taken why ≡ false → text ≡ trimmed told → complained ≡ puts_of (err, 0) (complaint_of number text why)
-      → ((s, d, t), complained) ≡ line_recorded s d number line t err
-  unfolding line_recorded
-  line_left_lem e x c = rw (c, x) (simp (← a, ← b, ← w, e))
+    recorded_by s d number told t err (why_not (line_of told) t.1)

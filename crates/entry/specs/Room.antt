@@ -1,11 +1,12 @@
 -- A recording of 64,000 bytes has room for the record of a line that is taken, and a buffer of 256 for the complaint of one that is not: both are whole.
-use Rattle.std.specs.Prelude.{ℕ, ◌≤◌, ◌≡◌, Bool, length, take}
+use Rattle.std.specs.Prelude.{Option, None, Some, ℕ, ◌≤◌, ◌≡◌, length, take}
 use Rattle.std.proofs.Math.Path.{refl}
+use Rattle.std.proofs.lemmas.Bool.{false≢true}
 use Rattle.std.proofs.Common.{sym, ◌∙◌, ap, arith, length-append}
-use Rattle.std.proofs.Math.Bool.{true, false, cond}
+use Rattle.std.proofs.Math.Bool.{true, false}
 use mathlib.Core.List.{List, [], ◌++◌}
 use Rattle.text.specs.Ascii.{ascii}
-use Rattle.text.specs.Put.{Text, before, puts_of, puts_after, puts_whole}
+use Rattle.text.specs.Put.{Text, before, puts_after, puts_whole}
 use Rattle.number.specs.declared.Number.{Number}
 use Rattle.slots.specs.Outcome.{Outcome}
 use Rattle.slots.specs.Slots.{bytes_of}
@@ -16,9 +17,9 @@ use Rattle.wording.specs.Room.{fault_length, place_length}
 use Rattle.replaying.proofs.TopLaws.{top_long}
 use Rattle.replaying.specs.Made.{Step, push, literal, done_by, record_of}
 use Rattle.reasons.specs.declared.why.Why.{Why}
-use Rattle.reasons.specs.declared.why.Why.TheVariants.{None, Unread, Mended, Zero, Full}
+use Rattle.reasons.specs.declared.why.Why.TheVariants.{Unread, Mended, Zero, Full}
 use Rattle.reasons.specs.Complaint.{why_not, is_taken, why_text, complaint_of}
-use Rattle.entry.specs.Entry.{Kept, step_kept, said_kept, line_recorded}
+use Rattle.entry.specs.Entry.{Kept, step_kept, said_kept, recorded_by, line_recorded}
 
 -- the record of a step that a line says has sixteen bytes
 pub push_long : (n : Number) (o : Outcome × List ℕ) → length (record_of (push (bytes_of n)) o) ≡ 16
@@ -36,7 +37,6 @@ record_whole s d t x l h e = puts_after t.0 t.1 _ (omega arith)
 
 why_length : (w : Why) → length (why_text w) ≤ 100
 unfolding why_text
-why_length None = omega arith
 why_length (Unread f) = fault_length f
 why_length Mended = omega arith
 why_length Zero = omega arith
@@ -52,48 +52,71 @@ complaint_length number text why =
     let w = why_length why in
     (omega (arith, a, b), omega (arith, a, b, c, w))
 
+-- what standard error has of a line: nothing where it is taken
+unfoldable pub complaint_if : ℕ → List ℕ → Option Why → List ℕ
+complaint_if number text None = []
+complaint_if number text (Some why) = complaint_of number text why
+
 -- a line with its number
 module _ (s : List ℕ) (d number : ℕ) (line : List ℕ) (t : Text) (err : List ℕ) (h : length err ≡ 256) where
-  abbrev why : Why
-  why = why_not (line_of (told_of number line)) t.1
+  abbrev told : List ℕ
+  told = told_of number line
 
-  abbrev text : List ℕ
-  text = trimmed (told_of number line)
+  abbrev why : Option Why
+  why = why_not (line_of told) t.1
+
+  abbrev by : Option Why → Kept × Text
+  by w = recorded_by s d number told t err w
 
   abbrev left : Kept × Text
   left = line_recorded s d number line t err
 
-  whole : before (puts_of (err, 0) (complaint_of number text why)) ≡ complaint_of number text why
-  whole = puts_whole err _ (omega (arith, (complaint_length number text why).1))
+  whole : (w : Option Why) → before (by w).1 ≡ complaint_if number (trimmed told) w
+  unfolding recorded_by complaint_if
+  whole None = refl
+  whole (Some w) = puts_whole err _ (omega (arith, (complaint_length number (trimmed told) w).1))
 
-  pub complaint_whole : before left.1 ≡ cond (is_taken why) [] (complaint_of number text why)
+  pub complaint_whole : before left.1 ≡ complaint_if number (trimmed told) why
   unfolding line_recorded
-  complaint_whole = go (is_taken why) refl
-    where
-      go : (b : Bool) → is_taken why ≡ b → before left.1 ≡ cond b [] (complaint_of number text why)
-      go true e = simp e
-      go false e = simp e whole
+  complaint_whole = whole why
 
   -- nothing is said of a line exactly where it is taken, by which `record` goes
+  none_said : (w : Option Why) → is_taken w ≡ true → (by w).1.1 ≡ 0
+  unfolding recorded_by is_taken
+  none_said None e = refl
+  none_said (Some w) e = absurd (false≢true e)
+
   pub silent : is_taken why ≡ true → left.1.1 ≡ 0
   unfolding line_recorded
-  silent e = simp e
+  silent = none_said why
+
+  none_against : (w : Option Why) → (by w).1.1 ≡ 0 → is_taken w ≡ true
+  unfolding is_taken complaint_if
+  none_against None z = refl
+  none_against (Some w) z =
+      let said = sym (whole (Some w)) in
+      let none : length (complaint_of number (trimmed told) w) ≡ 0 = ap length said ∙ ap (λ (k : ℕ). length (take k (by (Some w)).1.0)) z in
+      absurd (omega (arith, none, (complaint_length number (trimmed told) w).0))
 
   pub taken : left.1.1 ≡ 0 → is_taken why ≡ true
-  taken z = go (is_taken why) refl
-    where
-      go : (b : Bool) → is_taken why ≡ b → is_taken why ≡ true
-      go true e = e
-      go false e =
-          let said = sym (complaint_whole ∙ ap (λ (b : Bool). cond b [] (complaint_of number text why)) e) in
-          let none : length (complaint_of number text why) ≡ 0 = ap length said ∙ ap (λ (k : ℕ). length (take k left.1.0)) z in
-          absurd (omega (arith, none, (complaint_length number text why).0))
+  unfolding line_recorded
+  taken = none_against why
 
   -- what it leaves then is its step's; else all is as it was
-  pub as_said : is_taken why ≡ true → left.0 ≡ said_kept s d t (line_of (told_of number line))
+  said_by : (w : Option Why) → is_taken w ≡ true → (by w).0 ≡ said_kept s d t (line_of told)
+  unfolding recorded_by is_taken
+  said_by None e = refl
+  said_by (Some w) e = absurd (false≢true e)
+
+  pub as_said : is_taken why ≡ true → left.0 ≡ said_kept s d t (line_of told)
   unfolding line_recorded
-  as_said e = simp e
+  as_said = said_by why
+
+  same_by : (w : Option Why) → is_taken w ≡ false → (by w).0 ≡ (s, d, t)
+  unfolding recorded_by is_taken
+  same_by None e = absurd (false≢true (sym e))
+  same_by (Some w) e = refl
 
   pub as_it_was : is_taken why ≡ false → left.0 ≡ (s, d, t)
   unfolding line_recorded
-  as_it_was e = simp e
+  as_it_was = same_by why

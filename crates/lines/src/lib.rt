@@ -1,6 +1,8 @@
 // Lines out of a text that comes byte by byte.
 #![tactic(auto)]
 
-mod taking;
+mod following;
+mod line;
 
-pub use taking::{Taken, take};
+pub use following::{Sheet, follow};
+pub use line::Line;

@@ -1,6 +1,7 @@
 // Five-byte numbers of the Spectrum's calculator: their forms, and the parts that the arithmetic takes of them. Every function takes any parts.
 #![tactic(auto)]
 
+mod bytes;
 mod form;
 mod operand;
 mod parts;

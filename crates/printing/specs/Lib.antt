@@ -1,4 +1,3 @@
 pub mod Names
 pub mod Page
-pub mod PageLaws
 pub mod Room

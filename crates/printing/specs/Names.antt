@@ -1,14 +1,8 @@
 -- A literal's name in the ROM's listing, as a sheet has it; 0 is a push in a recording.
 use Rattle.std.specs.Prelude.{ℕ, ◌≡◌, refl, Some, cond, List, ◌++◌, eqb}
-use borrow.Author.Tests.{ne_eqb}
-use Rattle.text.specs.Put.{Text, puts_of}
 use Rattle.text.specs.Ascii.{ascii}
 use Rattle.text.specs.Digits.{decimal_of}
 use Rattle.naming.specs.Names.{by_name, literal_of}
-
--- what is put may be said in another way
-pub puts_same : (t : Text) {u : Text} {xs ys : List ℕ} → xs ≡ ys → u ≡ puts_of t xs → u ≡ puts_of t ys
-puts_same t f e = rw (← f) e
 
 -- one that is in no row, as a sheet asks for it
 abbrev pub number_name : ℕ → List ℕ
@@ -29,26 +23,6 @@ name_of l =
     (cond (eqb l 58) (ascii "truncate")
     (cond (eqb l 61) (ascii "re-stack")
     (number_name l))))))))))))
-
-module _ (l : ℕ) (p : l ≡ 0 → ⊥) (a : l ≡ 1 → ⊥) (b : l ≡ 2 → ⊥) (c : l ≡ 3 → ⊥) (d : l ≡ 4 → ⊥) (e : l ≡ 5 → ⊥) (f : l ≡ 15 → ⊥) (g : l ≡ 27 → ⊥)
-    (h : l ≡ 39 → ⊥) (i : l ≡ 49 → ⊥) (j : l ≡ 58 → ⊥) (k : l ≡ 61 → ⊥) where
-  pub no_name : name_of l ≡ number_name l
-  unfolding name_of
-  no_name =
-      simp (
-        ne_eqb l 0 p,
-        ne_eqb l 1 a,
-        ne_eqb l 2 b,
-        ne_eqb l 3 c,
-        ne_eqb l 4 d,
-        ne_eqb l 5 e,
-        ne_eqb l 15 f,
-        ne_eqb l 27 g,
-        ne_eqb l 39 h,
-        ne_eqb l 49 i,
-        ne_eqb l 58 j,
-        ne_eqb l 61 k,
-      )
 
 -- a sheet reads each name as its literal
 pub names_read : (literal_of (name_of 1) ≡ Some 1)

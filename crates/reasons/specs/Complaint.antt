@@ -1,7 +1,7 @@
 -- Why a line can't be taken, and what standard error has of it then.
-use Rattle.std.specs.Prelude.{Ok, Err, ℕ, ◌+◌, ◌≤◌, ◌<◌, ◌≡◌, refl, Bool, true, false, cond, List, [], ◌++◌, eqb, ltb}
+use Rattle.std.specs.Prelude.{Ok, Err, Option, None, Some, ℕ, ◌+◌, ◌≤◌, ◌≡◌, refl, Bool, true, false, cond, List, ◌++◌, eqb, ltb}
 use Rattle.std.proofs.lemmas.Bool.{false≢true, eqb-false}
-use Rattle.std.proofs.Common.{arith, lt-ltb, le-ltb, ltb-false}
+use Rattle.std.proofs.Common.{arith, ltb-false}
 use Rattle.text.specs.Ascii.{ascii}
 use Rattle.edition.specs.declared.Edition.{Edition}
 use Rattle.edition.specs.declared.Edition.TheVariants.{Shipped, Mended}
@@ -9,42 +9,31 @@ use Rattle.sheet.specs.Line.{Line}
 use Rattle.sheet.specs.declared.meaning.Step.TheVariants.{Nothing, Push, Literal, Named}
 use Rattle.wording.specs.Wording.{fault_of, place_of}
 use Rattle.reasons.specs.declared.why.Why.{Why}
-use Rattle.reasons.specs.declared.why.Why.TheVariants.{None, Unread, Mended as NotShipped, Zero, Full}
+use Rattle.reasons.specs.declared.why.Why.TheVariants.{Unread, Mended as NotShipped, Zero, Full}
 
 -- a recording has at most 64,000 bytes, of which a record takes 16
-unfoldable pub why_full : ℕ → Why
-why_full end = cond (ltb 64000 (end + 16)) Full None
-
-pub full : (end : ℕ) → 63984 < end → Full ≡ why_full end
-unfolding why_full
-full end h = simp (lt-ltb 64000 (end + 16) (omega arith))
-
-pub not_full : (end : ℕ) → end ≤ 63984 → None ≡ why_full end
-unfolding why_full
-not_full end h = simp (le-ltb 64000 (end + 16) (omega arith))
+unfoldable pub why_full : ℕ → Option Why
+why_full end = cond (ltb 64000 (end + 16)) (Some Full) None
 
 -- recordings are of the shipped edition
-unfoldable pub why_edition : Edition → Why
+unfoldable pub why_edition : Edition → Option Why
 why_edition Shipped = None
-why_edition Mended = NotShipped
+why_edition Mended = Some NotShipped
 
 -- "byte 0 the literal (0 for push)": literal 0 has no record
-unfoldable pub why_not : Line → ℕ → Why
+unfoldable pub why_not : Line → ℕ → Option Why
 why_not (Ok Nothing) end = None
 why_not (Ok (Push n)) end = why_full end
-why_not (Ok (Literal l)) end = cond (eqb l 0) Zero (why_full end)
+why_not (Ok (Literal l)) end = cond (eqb l 0) (Some Zero) (why_full end)
 why_not (Ok (Named e)) end = why_edition e
-why_not (Err f) end = Unread f
+why_not (Err f) end = Some (Unread f)
 
-unfoldable pub is_taken : Why → Bool
+-- a line is taken where there is no reason against it
+unfoldable pub is_taken : Option Why → Bool
 is_taken None = true
-is_taken (Unread f) = false
-is_taken NotShipped = false
-is_taken Zero = false
-is_taken Full = false
+is_taken (Some why) = false
 
 unfoldable pub why_text : Why → List ℕ
-why_text None = []
 why_text (Unread f) = fault_of f
 why_text NotShipped = ascii "recordings are of the shipped edition"
 why_text Zero = ascii "a recording has 0 for a push, and can't hold literal 0"
@@ -58,7 +47,7 @@ pub has_room : (end : ℕ) → is_taken (why_full end) ≡ true → end ≤ 6398
 unfolding why_full is_taken
 has_room end = go (ltb 64000 (end + 16)) refl
   where
-    go : (b : Bool) → ltb 64000 (end + 16) ≡ b → is_taken (cond b Full None) ≡ true → end ≤ 63984
+    go : (b : Bool) → ltb 64000 (end + 16) ≡ b → is_taken (cond b (Some Full) None) ≡ true → end ≤ 63984
     go true h e = absurd (false≢true e)
     go false h e = omega (arith, ltb-false 64000 (end + 16) h)
 
@@ -66,6 +55,6 @@ pub no_zero : (l end : ℕ) → is_taken (why_not (Ok (Literal l)) end) ≡ true
 unfolding why_not is_taken
 no_zero l end = go (eqb l 0) refl
   where
-    go : (b : Bool) → eqb l 0 ≡ b → is_taken (cond b Zero (why_full end)) ≡ true → (l ≡ 0 → ⊥) × (is_taken (why_full end) ≡ true)
+    go : (b : Bool) → eqb l 0 ≡ b → is_taken (cond b (Some Zero) (why_full end)) ≡ true → (l ≡ 0 → ⊥) × (is_taken (why_full end) ≡ true)
     go true h e = absurd (false≢true e)
     go false h e = (eqb-false l 0 h, e)

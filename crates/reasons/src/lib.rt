@@ -4,5 +4,5 @@
 mod complaints;
 mod why;
 
-pub use complaints::{is_taken, put_complaint, why_not};
+pub use complaints::{put_complaint, why_not};
 pub use why::Why;

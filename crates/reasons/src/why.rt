@@ -3,8 +3,6 @@ use sheet::Fault;
 
 #[derive(Clone, Copy)]
 pub enum Why {
-    // It can.
-    None,
     Unread(Fault),
     // Recordings are of the shipped edition.
     Mended,

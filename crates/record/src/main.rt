@@ -13,19 +13,8 @@
 // It is written when all of the sheet was read. At a line that can't be taken nothing is written, and standard error says what is wrong with it.
 #![tactic(auto)]
 
-mod following;
+mod entering;
 
 fn main(rt: HostRuntime) {
-    let mut stack = [0u8; 16000];
-    // What stands before a line's comment has at most 65,535 bytes, and a byte-order mark three: one more tells a longer line.
-    let mut line = [0u8; 65539];
-    let mut recording = [0u8; 64000];
-    following::follow(
-        &mut rt.stdin(),
-        &mut rt.stdout(),
-        &mut rt.stderr(),
-        &mut stack,
-        &mut line,
-        &mut recording,
-    );
+    entering::record(rt.stdin(), rt.stdout(), rt.stderr());
 }

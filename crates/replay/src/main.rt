@@ -13,6 +13,7 @@
 // A step that is refused, and recorded so, agrees. The status is 0, 1 or 2 by that line.
 #![tactic(auto)]
 
+use standard::say;
 use std::io::Write;
 
 fn main(rt: HostRuntime) {
@@ -20,17 +21,17 @@ fn main(rt: HostRuntime) {
     // One byte more than a recording may have tells a longer one.
     let mut recording = [0u8; 64001];
     let mut out = [0u8; 64];
-    let taken = standard::take_all(&mut rt.stdin(), &mut recording);
-    if !taken.read {
-        let _ = rt.stderr().write_all(
+    let Ok(held) = standard::take_all(&mut rt.stdin(), &mut recording) else {
+        return say(
+            &mut rt.stderr(),
             b"replay: standard input cannot be read; nothing was replayed\n",
         );
-        return;
-    }
-    let n = telling::print_replay(&mut stack, text::first(&recording, taken.held), &mut out);
+    };
+    let n = telling::print_replay(&mut stack, &recording[..held], &mut out);
     if rt.stdout().write_all(text::first(&out, n)).is_err() {
-        let _ = rt
-            .stderr()
-            .write_all(b"replay: standard output cannot be written\n");
+        say(
+            &mut rt.stderr(),
+            b"replay: standard output cannot be written\n",
+        );
     }
 }

@@ -5,6 +5,7 @@ ghost use Rattle.reply.specs.Following.{goes_on, line_left};
 use crate::{answers, complaints, steps};
 use calculator::Edition;
 use sheet::{Fault, Step};
+use text::Page;
 
 // The depth and the edition after a line, whether another step may be done, and how much was put for standard output and for standard error.
 #[derive(Clone, Copy)]
@@ -21,14 +22,12 @@ fn goes_on(terminal: bool, said: Result<Step, Fault>) -> bool
     ensures { result ≡ goes_on terminal said }
 {
     match said {
-        Ok(Step::Nothing) => true,
-        Ok(Step::Push(_)) => true,
-        Ok(Step::Literal(_)) => true,
-        Ok(Step::Named(_)) => true,
+        Ok(_) => true,
         Err(_) => terminal,
     }
 }
 
+#[tactic(auto, unfolding(crate::specs::Following::line_left))]
 pub fn answer_line(
     edition: Edition,
     stack: &mut [u8],
@@ -43,33 +42,28 @@ pub fn answer_line(
     ensures { (stack.new, result.depth, result.edition, result.going, (out.new, result.out), (err.new, result.err))
         ≡ line_left terminal going edition stack.old depth number line.now out.old err.old }
 {
-    if going {
-        let told = sheet::told(line, number);
-        let said = sheet::line_of(told);
-        let done = steps::step(edition, stack, depth, said);
-        let after = done.depth;
-        let written = answers::put_answer(
-            out,
-            number,
-            said,
-            done.report,
-            after,
-            calculator::view(stack, after),
-        );
-        let complained = complaints::put_said(err, terminal, number, sheet::trimmed(told), said);
+    if !going {
         return Answered {
-            depth: after,
-            edition: steps::edition_after(edition, said),
-            going: goes_on(terminal, said),
-            out: written,
-            err: complained,
+            depth,
+            edition,
+            going,
+            out: 0,
+            err: 0,
         };
     }
+    let told = sheet::told(line, number);
+    let said = sheet::line_of(told);
+    let done = steps::step(edition, stack, depth, said);
+    let top = calculator::view(stack, done.depth);
+    let mut answer = Page::new(out);
+    answers::put_answer(&mut answer, number, said, done, top);
+    let mut complaint = Page::new(err);
+    complaints::put_said(&mut complaint, terminal, number, sheet::trimmed(told), said);
     Answered {
-        depth,
-        edition,
-        going: false,
-        out: 0,
-        err: 0,
+        depth: done.depth,
+        edition: steps::edition_after(edition, said),
+        going: goes_on(terminal, said),
+        out: answer.len(),
+        err: complaint.len(),
     }
 }

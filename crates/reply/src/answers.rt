@@ -1,35 +1,36 @@
 // What standard output has of a line.
-ghost use Rattle.std.specs.Prelude.{◌≡◌};
-ghost use Rattle.text.specs.Put.{puts_of};
+ghost use Rattle.text.specs.Page.{Puts};
 ghost use Rattle.reply.specs.Answer.{unreadable_answer, answer_of};
 
+use calculator::Outcome;
 use sheet::{Fault, Step};
+use text::Page;
 
 // That a line can't be read, with its number.
-fn put_unreadable(out: &mut [u8], number: u64) -> usize
-    ensures { (out.new, result) ≡ puts_of (out.old, 0) (unreadable_answer number) }
+#[tactic(auto, using(text::proofs::Puts::puts_append), unfolding(text::specs::Put::puts_of))]
+fn put_unreadable(page: &mut Page, number: u64)
+    ensures { Puts page.old page.new (unreadable_answer number) }
 {
-    let digits = text::put_all(out, 0, b"? line ");
-    let end = text::put_decimal(out, digits, number);
-    text::put(out, end, b'\n')
+    page.put_all(b"? line ");
+    page.put_decimal(number);
+    page.put(b'\n');
 }
 
 #[tactic(auto, unfolding(crate::specs::Answer::answer_of, text::specs::Put::puts_of))]
 pub(crate) fn put_answer(
-    out: &mut [u8],
+    page: &mut Page,
     number: u64,
     said: Result<Step, Fault>,
-    report: u8,
-    depth: usize,
+    done: Outcome,
     top: &[u8],
-) -> usize
-    ensures { (out.new, result) ≡ puts_of (out.old, 0) (answer_of number said report depth top.now) }
+)
+    ensures { Puts page.old page.new (answer_of number said done.report done.depth top.now) }
 {
     match said {
-        Ok(Step::Nothing) => 0,
-        Ok(Step::Push(_)) => wording::put_step(out, 0, report, depth, top),
-        Ok(Step::Literal(_)) => wording::put_step(out, 0, report, depth, top),
-        Ok(Step::Named(_)) => 0,
-        Err(_) => put_unreadable(out, number),
+        Ok(Step::Push(_) | Step::Literal(_)) => {
+            wording::put_step(page, done.report, done.depth, top);
+        }
+        Ok(Step::Nothing | Step::Named(_)) => {}
+        Err(_) => put_unreadable(page, number),
     }
 }

@@ -15,21 +15,9 @@ pub(crate) fn step(
     ensures { step_of edition stack.old depth said ≡ (result, stack.new) }
 {
     match said {
-        Ok(Step::Push(n)) => {
-            let w = n.word;
-            let five = [
-                n.b1,
-                (w / 16777216) as u8,
-                (w / 65536 % 256) as u8,
-                (w / 256 % 256) as u8,
-                (w % 256) as u8,
-            ];
-            calculator::push(stack, depth, &five)
-        }
-        Ok(Step::Literal(l)) => calculator::operate_in(edition, stack, depth, l),
-        Ok(Step::Nothing) => Outcome { report: 0, depth },
-        Ok(Step::Named(_)) => Outcome { report: 0, depth },
-        Err(_) => Outcome { report: 0, depth },
+        Ok(Step::Push(number)) => calculator::push(stack, depth, &number.to_bytes()),
+        Ok(Step::Literal(literal)) => calculator::operate_in(edition, stack, depth, literal),
+        Ok(Step::Nothing | Step::Named(_)) | Err(_) => Outcome { report: 0, depth },
     }
 }
 
@@ -39,10 +27,7 @@ pub(crate) fn edition_after(edition: Edition, said: Result<Step, Fault>) -> Edit
     ensures { result ≡ edition_after edition said }
 {
     match said {
-        Ok(Step::Nothing) => edition,
-        Ok(Step::Push(_)) => edition,
-        Ok(Step::Literal(_)) => edition,
         Ok(Step::Named(named)) => named,
-        Err(_) => edition,
+        _ => edition,
     }
 }

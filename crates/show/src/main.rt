@@ -13,6 +13,7 @@
 // --help says what a recording is.
 #![tactic(auto)]
 
+use standard::say;
 use std::io::Write;
 
 fn main(rt: HostRuntime) {
@@ -21,14 +22,16 @@ fn main(rt: HostRuntime) {
     let mut recording = [0u8; 64001];
     // Room for 4,000 records and the last two lines.
     let mut out = [0u8; 460000];
-    let taken = standard::take_all(&mut rt.stdin(), &mut recording);
-    if !taken.read {
-        let _ = rt.stderr().write_all(b"show: standard input cannot be read; nothing was shown\n");
-        return;
-    }
-    let n = printing::print_show(&mut stack, text::first(&recording, taken.held), &mut out);
+    let Ok(held) = standard::take_all(&mut rt.stdin(), &mut recording) else {
+        return say(
+            &mut rt.stderr(),
+            b"show: standard input cannot be read; nothing was shown\n",
+        );
+    };
+    let n = printing::print_show(&mut stack, &recording[..held], &mut out);
     if rt.stdout().write_all(text::first(&out, n)).is_err() {
-        let _ = rt.stderr().write_all(
+        say(
+            &mut rt.stderr(),
             b"show: standard output cannot be written; not all was shown\n",
         );
     }

@@ -1,31 +1,30 @@
-// Standard input, for programs that take all of it before they begin.
+// Standard input, for programs that take all of it before they begin, and standard error.
 #![tactic(auto)]
 
-use std::io::Read;
+ghost use Rattle.std.specs.Prelude.{◌≤◌, length, IfOk};
 
-// How many bytes were taken, and whether the input could be read.
-#[derive(Clone, Copy)]
-pub struct Taken {
-    pub held: usize,
-    pub read: bool,
-}
+use std::io;
+use std::io::{Read, Write};
 
-// As much as the buffer holds: what comes after that is not read. Each turn takes a byte at least, so as many turns as the buffer has bytes are enough.
-pub fn take_all<R: Read>(input: &mut R, buffer: &mut [u8]) -> Taken {
-    let len = buffer.len();
+// How many bytes were taken: as much as the buffer holds, and what comes after that is not read. Each turn takes a byte at least, so as many turns as
+// the buffer has bytes are enough.
+pub fn take_all<R: Read>(input: &mut R, buffer: &mut [u8]) -> io::Result<usize>
+    ensures { IfOk result (λ held. held ≤ length buffer.new) }
+{
     let mut held = 0;
-    let mut turns = len;
-    while 0 < turns {
-        turns -= 1;
-        let mut bytes = [0u8; 4096];
-        match input.read(&mut bytes) {
-            Ok(0) => return Taken { held, read: true },
-            Ok(n) => held = text::put_all(buffer, held, &bytes[..n]),
-            Err(_) => return Taken { held, read: false },
-        }
-        if held == len {
+    for _ in 0..buffer.len() {
+        if held == buffer.len() {
             break;
         }
+        match input.read(&mut buffer[held..])? {
+            0 => break,
+            n => held += n,
+        }
     }
-    Taken { held, read: true }
+    Ok(held)
+}
+
+// Says what is wrong. Where standard error can't be written either, there is nobody to tell.
+pub fn say<E: Write>(err: &mut E, message: &[u8]) {
+    let _ = err.write_all(message);
 }

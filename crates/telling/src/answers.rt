@@ -4,12 +4,14 @@ ghost use Rattle.replaying.specs.Replay.{replay_of};
 ghost use Rattle.telling.specs.Verdict.{answer_of, printed};
 
 use crate::verdicts::put_verdict;
+use text::Page;
 
 pub fn print_replay(stack: &mut [u8], recording: &[u8], out: &mut [u8]) -> usize
     ensures { (stack.new, (out.new, result))
         ≡ printed (replay_of stack.old recording.now) out.old answer_of }
 {
     let done = replaying::replay(stack, recording);
-    let verdict = done.verdict;
-    put_verdict(out, 0, verdict)
+    let mut page = Page::new(out);
+    put_verdict(&mut page, done.verdict);
+    page.len()
 }

@@ -1,15 +1,10 @@
 -- Numbers as text: decimal, and hexadecimal in upper case. ASCII has `0` at 48, `A` at 65 and `a` at 97.
-use Rattle.std.specs.Prelude.{ℕ, zero, suc, ◌+◌, ◌-◌, ◌*◌, ◌/◌, ◌%◌, ◌<◌, ◌≤◌, ◌≡◌, Bool, true, false, cond, List, [], ◌∷◌, ◌++◌, ltb, length, drop, get_or}
-use Rattle.std.proofs.Common.{arith, add-one, length-append, drop_of_length-le, lt-ltb, le-ltb}
-use Rattle.std.proofs.Math.Seq.{drop-cons}
-use Rattle.text.specs.Put.{Text, put_of, puts_of, puts_join, puts_then, put_last}
+use Rattle.std.specs.Prelude.{ℕ, zero, suc, ◌+◌, ◌-◌, ◌*◌, ◌/◌, ◌%◌, ◌≤◌, ◌≡◌, Bool, true, false, cond, List, [], ◌∷◌, ◌++◌, ltb, length}
+use Rattle.std.proofs.Common.{arith, length-append}
 
 -- the digit of d below 16
 unfoldable pub digit_of : ℕ → ℕ
 digit_of d = cond (ltb d 10) (48 + d) (55 + d)
-
-nonzero : (k : ℕ) → (k ≡ 0 → ⊥) → k ≡ suc (k - 1)
-nonzero k h = omega arith
 
 -- n in decimal, of at most k + 1 digits
 unfoldable pub digits_of : ℕ → ℕ → List ℕ
@@ -19,20 +14,6 @@ digits_of (suc k) n = cond (ltb n 10) (digit_of n ∷ []) (digits_of k (n / 10) 
 -- a number below 10^20, as every u64 is
 abbrev pub decimal_of : ℕ → List ℕ
 decimal_of n = digits_of 19 n
-
--- the digit in each case, put after those before it
-module _ (t : Text) {u : Text} (k n : ℕ) where
-  pub digits_last : k ≡ 0 → u ≡ put_of t (digit_of (n % 10)) → u ≡ puts_of t (digits_of k n)
-  unfolding digits_of
-  digits_last h e = rw h (put_last t _ e)
-
-  pub digits_one : (k ≡ 0 → ⊥) → n < 10 → u ≡ put_of t (digit_of n) → u ≡ puts_of t (digits_of k n)
-  unfolding digits_of
-  digits_one h g e = rw (nonzero k h) (simp (lt-ltb _ _ g) (put_last t _ e))
-
-  pub digits_more : {v : Text} → (k ≡ 0 → ⊥) → 10 ≤ n → v ≡ puts_of t (digits_of (k - 1) (n / 10)) → u ≡ put_of v (digit_of (n % 10)) → u ≡ puts_of t (digits_of k n)
-  unfolding digits_of
-  digits_more h g e f = rw (nonzero k h) (simp (le-ltb _ _ g) (puts_then t _ _ e (put_last _ _ f)))
 
 -- so many digits it has at most
 pub digits_length : (k n : ℕ) → length (digits_of k n) ≤ k + 1
@@ -63,17 +44,6 @@ each_length before (b ∷ bs) =
 -- with nothing between them
 abbrev pub hexes_of : List ℕ → List ℕ
 hexes_of bs = each_of [] bs
-
--- a list of which i bytes are put
-module _ (t : Text) (before bs : List ℕ) (i : ℕ) where
-  pub each_done : length bs ≤ i → puts_of t (each_of before (drop i bs)) ≡ t
-  unfolding each_of puts_of
-  each_done h = rw (drop_of_length-le bs h)
-
-  pub each_next : {u v : Text} → i < length bs → u ≡ puts_of t before → v ≡ puts_of u (hex_of (get_or bs i 0))
-      → puts_of t (each_of before (drop i bs)) ≡ puts_of v (each_of before (drop (i + 1) bs))
-  unfolding each_of
-  each_next h e f = rw (add-one, drop-cons bs i 0, f, e) (simp (← puts_join))
 
 -- the value of a hexadecimal digit of either case; 16 where the byte is none
 unfoldable pub value_of : ℕ → ℕ

@@ -1,6 +1,6 @@
 -- Text put into a buffer that the caller lends, from a place on. What finds no room is left out.
-use Rattle.std.specs.Prelude.{ℕ, ◌+◌, ◌<◌, ◌≤◌, ◌≡◌, refl, Bool, true, false, cond, List, [], ◌∷◌, ◌++◌, ltb, length, set, take, drop, get_or}
-use Rattle.std.proofs.Common.{sym, ◌∙◌, ap, append-nil, append_assoc, arith, add-one, length-set, drop_of_length-le, drop-cons, take-suc-set, lt-ltb, le-ltb}
+use Rattle.std.specs.Prelude.{ℕ, ◌+◌, ◌<◌, ◌≤◌, ◌≡◌, refl, Bool, true, false, cond, List, [], ◌∷◌, ◌++◌, ltb, length, set, take}
+use Rattle.std.proofs.Common.{sym, ◌∙◌, ap, append-nil, append_assoc, arith, add-one, length-set, take-suc-set, lt-ltb, le-ltb}
 
 -- the buffer, and the place after what was put last
 abbrev pub Text : Type 0
@@ -34,15 +34,6 @@ puts_then t xs ys e f = f ∙ ap (λ (w : Text). puts_of w ys) e ∙ puts_join t
 pub put_last : (t : Text) {u : Text} (x : ℕ) → u ≡ put_of t x → u ≡ puts_of t (x ∷ [])
 unfolding puts_of
 put_last t x e = e
-
--- a list of which i bytes are put
-pub puts_done : (t : Text) (bs : List ℕ) (i : ℕ) → length bs ≤ i → puts_of t (drop i bs) ≡ t
-unfolding puts_of
-puts_done t bs i h = rw (drop_of_length-le bs h)
-
-pub puts_next : (t u : Text) (bs : List ℕ) (i : ℕ) → i < length bs → u ≡ put_of t (get_or bs i 0) → puts_of t (drop i bs) ≡ puts_of u (drop (i + 1) bs)
-unfolding puts_of
-puts_next t u bs i h e = rw (add-one, drop-cons bs i 0, e)
 
 -- what stands before the place
 abbrev pub before : Text → List ℕ

@@ -1,26 +1,19 @@
 // Decimal numbers.
-ghost use Rattle.std.specs.Prelude.{◌≡◌};
-ghost use Rattle.text.specs.Put.{puts_of};
-ghost use Rattle.text.specs.Digits.{digits_of, decimal_of};
+ghost use Rattle.text.specs.Digits.{decimal_of};
+ghost use Rattle.text.specs.Page.{Puts};
 
-use crate::digit::put_digit;
+use crate::digit::digit_of;
+use crate::page::Page;
 
-// Calls itself for the digits before the last; `left` is how many may come before this one.
-fn put_digits(out: &mut [u8], at: usize, n: u64, left: u64) -> usize
-    ensures { (out.new, result) ≡ puts_of (out.old, at) (digits_of left n) }
-{
-    if left == 0 {
-        return put_digit(out, at, (n % 10) as u8);
+impl Page<'_> {
+    // Calls itself for the digits before the last. By hand: `write!` promises what it writes where it answers Ok, and a page leaves out what finds no room.
+    #[tactic(auto, using(crate::proofs::Puts::decimal_one, crate::proofs::Puts::decimal_more, crate::proofs::Puts::puts_append))]
+    pub fn put_decimal(&mut self, number: u64)
+        ensures { Puts self.old self.new (decimal_of number) }
+    {
+        if number >= 10 {
+            self.put_decimal(number / 10);
+        }
+        self.put(digit_of((number % 10) as u8));
     }
-    if n < 10 {
-        return put_digit(out, at, n as u8);
-    }
-    let next = put_digits(out, at, n / 10, left - 1);
-    put_digit(out, next, (n % 10) as u8)
-}
-
-pub fn put_decimal(out: &mut [u8], at: usize, n: u64) -> usize
-    ensures { (out.new, result) ≡ puts_of (out.old, at) (decimal_of n) }
-{
-    put_digits(out, at, n, 19)
 }

@@ -1,61 +1,48 @@
 // Hexadecimal numbers.
 ghost use Rattle.std.specs.Prelude.{◌≡◌};
-ghost use Rattle.text.specs.Put.{puts_of};
 ghost use Rattle.text.specs.Digits.{hex_of, each_of, hexes_of, value_of};
+ghost use Rattle.text.specs.Page.{Puts};
 
-use crate::digit::put_digit;
-use crate::place::put_all;
+use crate::digit::digit_of;
+use crate::page::Page;
 
-pub fn put_hex(out: &mut [u8], at: usize, byte: u8) -> usize
-    ensures { (out.new, result) ≡ puts_of (out.old, at) (hex_of byte) }
-{
-    let next = put_digit(out, at, byte / 16);
-    put_digit(out, next, byte % 16)
-}
-
-// The bytes of a slice, with a text before each.
-pub fn put_each(out: &mut [u8], at: usize, before: &[u8], bytes: &[u8]) -> usize
-    ensures { (out.new, result) ≡ puts_of (out.old, at) (each_of before.now bytes.now) }
-{
-    let n = bytes.len();
-    let mut next = at;
-    let mut i = 0;
-    while i < n {
-        let digits = put_all(out, next, before);
-        next = put_hex(out, digits, bytes[i]);
-        i += 1;
+impl Page<'_> {
+    #[tactic(auto, unfolding(crate::specs::Put::puts_of))]
+    pub fn put_hex(&mut self, byte: u8)
+        ensures { Puts self.old self.new (hex_of byte) }
+    {
+        self.put(digit_of(byte / 16));
+        self.put(digit_of(byte % 16));
     }
-    next
-}
 
-// The bytes of a slice, with nothing between them.
-pub fn put_hexes(out: &mut [u8], at: usize, bytes: &[u8]) -> usize
-    ensures { (out.new, result) ≡ puts_of (out.old, at) (hexes_of bytes.now) }
-{
-    put_each(out, at, b"", bytes)
+    // The bytes of a slice, with a text before each.
+    #[tactic(auto, using(crate::proofs::Puts::each_take), unfolding(crate::specs::Put::puts_of, crate::specs::Digits::each_of))]
+    pub fn put_each(&mut self, before: &[u8], bytes: &[u8])
+        ensures { Puts self.old self.new (each_of before.now bytes.now) }
+    {
+        for byte in bytes {
+            self.put_all(before);
+            self.put_hex(*byte);
+        }
+    }
+
+    // The bytes of a slice, with nothing between them.
+    pub fn put_hexes(&mut self, bytes: &[u8])
+        ensures { Puts self.old self.new (hexes_of bytes.now) }
+    {
+        self.put_each(b"", bytes);
+    }
 }
 
 // The value of a digit of either case; 16 where the byte is none.
+#[tactic(auto, unfolding(crate::specs::Digits::value_of))]
 pub fn value_of(c: u8) -> u8
     ensures { result ≡ value_of c }
 {
-    if c < 48 {
-        return 16;
+    match c {
+        b'0'..=b'9' => c - b'0',
+        b'A'..=b'F' => c - b'A' + 10,
+        b'a'..=b'f' => c - b'a' + 10,
+        _ => 16,
     }
-    if c < 58 {
-        return c - 48;
-    }
-    if c < 65 {
-        return 16;
-    }
-    if c < 71 {
-        return c - 55;
-    }
-    if c < 97 {
-        return 16;
-    }
-    if c < 103 {
-        return c - 87;
-    }
-    16
 }

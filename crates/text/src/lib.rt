@@ -1,12 +1,10 @@
-// Numbers as text, put into a buffer that the caller lends from a place on: each function answers the place after what it put, and
-// leaves out what finds no room.
+// Numbers as text, put on a page: what finds no room is left out.
 #![tactic(auto)]
 
 mod decimal;
 mod digit;
 mod hexadecimal;
-mod place;
+mod page;
 
-pub use decimal::put_decimal;
-pub use hexadecimal::{put_each, put_hex, put_hexes, value_of};
-pub use place::{first, put, put_all};
+pub use hexadecimal::value_of;
+pub use page::{Page, first};

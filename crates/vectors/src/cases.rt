@@ -1,182 +1,147 @@
-// A case: its fields, the call, and whether its answer was written.
-use crate::{answers, reading};
-use std::io::Write;
+// A case: its fields, the call, and what is answered.
+use crate::answers::Answer;
+use crate::reading;
+use text::Page;
 
-fn call_with_byte<W: Write, E: Write>(
-    out: &mut W,
-    err: &mut E,
-    kind: u8,
-    stack: &mut [u8],
-    depth: usize,
-    byte: u8,
-) -> bool {
-    match kind {
-        b'o' => {
-            let done = calculator::operate(stack, depth, byte);
-            answers::write_answer(out, err, done.report, 0, stack, done.depth)
+// What is done with a case's bytes.
+#[derive(Clone, Copy)]
+enum Kind {
+    // The one literal.
+    Operate,
+    // A number, pushed.
+    Push,
+    // A list of literals.
+    Run,
+    // A report, with which the stack is shown as it is.
+    Show,
+    // A recording, whatever the depth is.
+    Replay,
+    // A T, high byte first.
+    LeadingZeros,
+    // An edition's number, and the one literal.
+    OperateIn,
+    // An edition's number, and a list of literals.
+    RunIn,
+}
+
+impl Kind {
+    fn from_letter(letter: u8) -> Option<Kind> {
+        match letter {
+            b'o' => Some(Kind::Operate),
+            b'p' => Some(Kind::Push),
+            b'r' => Some(Kind::Run),
+            b'c' => Some(Kind::Show),
+            b'y' => Some(Kind::Replay),
+            b'z' => Some(Kind::LeadingZeros),
+            b'O' => Some(Kind::OperateIn),
+            b'R' => Some(Kind::RunIn),
+            _ => None,
         }
-        b'c' => answers::write_answer(out, err, byte, 0, stack, depth),
-        _ => answers::write_malformed(out, err),
+    }
+
+    // The most bytes that a case may have: a list of literals, with the edition before it or none, or a recording.
+    fn most(self) -> usize {
+        match self {
+            Kind::Replay => 65000,
+            Kind::RunIn => 61001,
+            _ => 61000,
+        }
     }
 }
 
-fn replay<W: Write, E: Write>(
-    out: &mut W,
-    err: &mut E,
-    stack: &mut [u8],
-    recording: &[u8],
-) -> bool {
-    let mut count = 0;
-    let mut field = 0u8;
+fn replay(stack: &mut [u8], recording: &[u8]) -> Answer {
+    let mut position = 0;
+    let mut field = 0;
     let mut depth = 0;
-    let report = trenailer::trenailer_replay(stack, recording, &mut count, &mut field, &mut depth);
-    answers::write_replayed(out, err, field, report, count, stack, depth)
+    let report = trenailer::trenailer_replay(
+        stack,
+        recording,
+        &mut position,
+        &mut field,
+        &mut depth,
+    );
+    Answer {
+        field: Some(field),
+        report,
+        position,
+        depth,
+    }
 }
 
-// T is four bytes, high byte first, and its number of zeros stands where a position would.
-fn leading_zeros<W: Write, E: Write>(
-    out: &mut W,
-    err: &mut E,
-    stack: &[u8],
-    depth: usize,
-    bytes: &[u8],
-) -> bool {
-    if bytes.len() != 4 {
-        return answers::write_malformed(out, err);
-    }
-    let t = number::joined(bytes[0], bytes[1], bytes[2], bytes[3]);
+// The number of zeros stands where a position would.
+fn leading_zeros(depth: usize, t: u32) -> Answer {
     let zeros = trenailer::trenailer_leading_zeros(t);
-    answers::write_answer(out, err, 0, zeros as usize, stack, depth)
-}
-
-fn call<W: Write, E: Write>(
-    out: &mut W,
-    err: &mut E,
-    kind: u8,
-    stack: &mut [u8],
-    depth: usize,
-    bytes: &[u8],
-) -> bool {
-    match kind {
-        b'p' => {
-            let done = calculator::push(stack, depth, bytes);
-            answers::write_answer(out, err, done.report, 0, stack, done.depth)
-        }
-        b'r' => {
-            let done = calculator::run(stack, depth, bytes);
-            answers::write_answer(out, err, done.report, done.position, stack, done.depth)
-        }
-        b'y' => replay(out, err, stack, bytes),
-        b'z' => leading_zeros(out, err, stack, depth, bytes),
-        _ => {
-            if bytes.len() == 1 {
-                call_with_byte(out, err, kind, stack, depth, bytes[0])
-            } else {
-                answers::write_malformed(out, err)
-            }
-        }
+    Answer {
+        field: None,
+        report: 0,
+        position: zeros as usize,
+        depth,
     }
 }
 
-// By the edition's number, the first byte: an operation with the one literal that follows it, or a run.
-fn call_in<W: Write, E: Write>(
-    out: &mut W,
-    err: &mut E,
-    kind: u8,
-    stack: &mut [u8],
-    depth: usize,
-    edition: u8,
-    bytes: &[u8],
-) -> bool {
+fn operate_in(edition: u8, stack: &mut [u8], depth: usize, literal: u8) -> Answer {
+    let mut after = depth;
+    let report = trenailer::trenailer_operate_in(edition, stack, &mut after, literal);
+    Answer {
+        field: None,
+        report,
+        position: 0,
+        depth: after,
+    }
+}
+
+fn run_in(edition: u8, stack: &mut [u8], depth: usize, literals: &[u8]) -> Answer {
     let mut after = depth;
     let mut position = 0;
-    if kind == b'R' {
-        let report = trenailer::trenailer_run_in(edition, stack, &mut after, bytes, &mut position);
-        return answers::write_answer(out, err, report, position, stack, after);
-    }
-    if bytes.len() == 1 {
-        let report = trenailer::trenailer_operate_in(edition, stack, &mut after, bytes[0]);
-        return answers::write_answer(out, err, report, 0, stack, after);
-    }
-    answers::write_malformed(out, err)
-}
-
-fn is_in_edition(kind: u8) -> bool {
-    if kind == b'O' {
-        return true;
-    }
-    kind == b'R'
-}
-
-// Whether the edition is named or none is.
-fn call_as<W: Write, E: Write>(
-    out: &mut W,
-    err: &mut E,
-    kind: u8,
-    stack: &mut [u8],
-    depth: usize,
-    bytes: &[u8],
-) -> bool {
-    if !is_in_edition(kind) {
-        return call(out, err, kind, stack, depth, bytes);
-    }
-    if bytes.len() == 0 {
-        return answers::write_malformed(out, err);
-    }
-    call_in(out, err, kind, stack, depth, bytes[0], &bytes[1..])
-}
-
-// The longest list of literals that a case may have, with the edition before it or none, or the longest recording.
-fn most(kind: u8) -> usize {
-    match kind {
-        b'y' => 65000,
-        b'R' => 61001,
-        _ => 61000,
+    let report = trenailer::trenailer_run_in(edition, stack, &mut after, literals, &mut position);
+    Answer {
+        field: None,
+        report,
+        position,
+        depth: after,
     }
 }
 
-// A case whose depth and stack were read up to a place.
-fn answer_on<W: Write, E: Write>(
-    out: &mut W,
-    err: &mut E,
-    line: &[u8],
-    kind: u8,
-    at: usize,
-    stack: &mut [u8],
-    depth: usize,
-) -> bool {
-    let mut bytes = [0u8; 65000];
-    let given = reading::bytes_at(line, at, b'\n', &mut bytes);
-    if most(kind) < given.value {
-        answers::write_malformed(out, err)
-    } else if given.next == line.len() {
-        call_as(
-            out,
-            err,
-            kind,
-            stack,
+// What a case answers beside the bytes that it leaves; `None` where its kind has other bytes.
+fn call(kind: Kind, stack: &mut [u8], depth: usize, bytes: &[u8]) -> Option<Answer> {
+    match (kind, bytes) {
+        (Kind::Operate, [literal]) => Some(calculator::operate(stack, depth, *literal).into()),
+        (Kind::Push, number) => Some(calculator::push(stack, depth, number).into()),
+        (Kind::Run, literals) => Some(calculator::run(stack, depth, literals).into()),
+        (Kind::Show, [report]) => Some(Answer {
+            field: None,
+            report: *report,
+            position: 0,
             depth,
-            text::first(&bytes, given.value),
-        )
-    } else {
-        answers::write_malformed(out, err)
+        }),
+        (Kind::Replay, recording) => Some(replay(stack, recording)),
+        (Kind::LeadingZeros, [a, b, c, d]) => {
+            Some(leading_zeros(depth, u32::from_be_bytes([*a, *b, *c, *d])))
+        }
+        (Kind::OperateIn, [edition, literal]) => Some(operate_in(*edition, stack, depth, *literal)),
+        (Kind::RunIn, [edition, literals @ ..]) => Some(run_in(*edition, stack, depth, literals)),
+        _ => None,
     }
 }
 
-// A line that is no comment. The buffers are as long as the longest stack, list of literals and recording that a case may have: each is over a
-// limit of the calculator's.
-pub(crate) fn answer<W: Write, E: Write>(out: &mut W, err: &mut E, line: &[u8], kind: u8) -> bool {
-    let mut stack = [0u8; 17000];
-    let depth = reading::number_at(line, 1, b' ');
-    let held = reading::bytes_at(line, depth.next, b' ', &mut stack);
-    let n = held.value;
-    answer_on(
-        out,
-        err,
-        line,
-        kind,
-        held.next,
-        &mut stack[0..n],
-        depth.value,
-    )
+// The answer to a line, put on a page; `None` where it is no case. The buffers are as long as the longest stack, list of literals and recording
+// that a case may have: each is over a limit of the calculator's. A line that is too long has lost its line feed.
+pub(crate) fn put_answer(page: &mut Page, line: &[u8]) -> Option<()> {
+    let [letter, fields @ .., b'\n'] = line else {
+        return None;
+    };
+    let kind = Kind::from_letter(*letter)?;
+    let (depth, fields) = reading::split_once(fields, b' ')?;
+    let (stack, bytes) = reading::split_once(fields, b' ')?;
+    let depth = reading::number(depth)?;
+    let mut stack_room = [0u8; 17000];
+    let mut bytes_room = [0u8; 65000];
+    let stack = reading::bytes(stack, &mut stack_room)?;
+    let bytes = reading::bytes(bytes, &mut bytes_room)?;
+    if kind.most() < bytes.len() {
+        return None;
+    }
+    let answer = call(kind, stack, depth, bytes)?;
+    answer.put(page, stack);
+    Some(())
 }

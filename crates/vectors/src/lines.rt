@@ -1,69 +1,83 @@
-// Lines out of the input, which comes in parts of any size. What is kept between parts is the line so far, with how many bytes of it are
-// held.
+// Lines out of the input, which comes in parts of any size. What is kept between parts is the line so far.
 use crate::cases;
+use standard::say;
+use std::io;
 use std::io::{Read, Write};
+use text::Page;
 
-// Held, where nothing more is to be done: the input has ended or can't be read, or an answer could not be written.
-pub(crate) const STOPPED: usize = 18446744073709551615;
+#[derive(Drop)]
+struct Answering<'a, W, E> {
+    line: Page<'a>,
+    out: W,
+    err: E,
+}
 
-// A line feed ends a line, but one that is too long has lost it: then its last field has no end.
-fn take_byte<W: Write, E: Write>(
-    out: &mut W,
-    err: &mut E,
-    line: &mut [u8; 65536],
-    held: usize,
-    byte: u8,
-) -> usize {
-    let next = text::put(line, held, byte);
-    let kind = line[0];
-    if byte != b'\n' {
-        next
-    } else if next < 2 {
-        0
-    } else if kind == b'#' {
-        0
-    } else if cases::answer(out, err, text::first(line, next), kind) {
-        0
-    } else {
-        STOPPED
+impl<'a, W: Write, E: Write> Answering<'a, W, E> {
+    fn write(&mut self, answer: &[u8]) -> io::Result<()> {
+        self.out.write_all(answer).inspect_err(|_| {
+            say(
+                &mut self.err,
+                b"vectors: standard output cannot be written\n",
+            )
+        })
+    }
+
+    // A whole line. A stack of 17,000 bytes and the rest of its answer fit the page. Not inlined: so large a frame is then made for a line, and not for each byte.
+    #[inline(never)]
+    fn answer(&mut self) -> io::Result<()> {
+        let line = self.line.as_bytes();
+        if let [b'\n'] | [b'#', ..] = line {
+            return Ok(());
+        }
+        let mut bytes = [0u8; 65536];
+        let mut page = Page::new(&mut bytes);
+        match cases::put_answer(&mut page, line) {
+            Some(()) => self.write(page.as_bytes()),
+            None => self.write(b"?\n"),
+        }
+    }
+
+    // A line feed ends a line, but one that is too long has lost it.
+    fn take(&mut self, byte: u8) -> io::Result<()> {
+        self.line.put(byte);
+        if byte == b'\n' {
+            self.answer()?;
+            self.line.clear();
+        }
+        Ok(())
+    }
+
+    // One read: how many bytes it got.
+    fn take_part<R: Read>(&mut self, input: &mut R) -> io::Result<usize> {
+        let mut part = [0u8; 4096];
+        let n = input.read(&mut part).inspect_err(|_| say(
+            &mut self.err,
+            b"vectors: standard input cannot be read\n",
+        ))?;
+        for byte in &part[..n] {
+            self.take(*byte)?;
+        }
+        Ok(n)
     }
 }
 
-fn take_part<W: Write, E: Write>(
-    out: &mut W,
-    err: &mut E,
-    line: &mut [u8; 65536],
-    held: usize,
-    part: &[u8],
-) -> usize {
-    let mut next = held;
-    for byte in part {
-        next = take_byte(out, err, line, next, *byte);
-        if next == STOPPED {
-            break;
+// Each line is answered, up to the end of the input; an `Err` where that can't be done, which standard error has. A last line needs no line feed, and an empty one
+// has no answer. A proved loop has to end, and nothing says that the input does: it counts up to a number that no run reaches.
+pub(crate) fn answer<R: Read + Drop, W: Write + Drop, E: Write + Drop>(
+    mut input: R,
+    out: W,
+    err: E,
+) -> io::Result<()> {
+    let mut line = [0u8; 65536];
+    let mut answering = Answering {
+        line: Page::new(&mut line),
+        out,
+        err,
+    };
+    for _ in 0..u64::MAX {
+        if answering.take_part(&mut input)? == 0 {
+            return answering.take(b'\n');
         }
     }
-    next
-}
-
-// One read. Where it gets no byte the input has ended: a last line needs no line feed, and an empty one has no answer.
-pub(crate) fn take_some<R: Read, W: Write, E: Write>(
-    input: &mut R,
-    out: &mut W,
-    err: &mut E,
-    line: &mut [u8; 65536],
-    held: usize,
-) -> usize {
-    let mut part = [0u8; 4096];
-    match input.read(&mut part) {
-        Ok(0) => {
-            take_byte(out, err, line, held, b'\n');
-            STOPPED
-        }
-        Ok(n) => take_part(out, err, line, held, &part[..n]),
-        Err(_) => {
-            let _ = err.write_all(b"vectors: standard input cannot be read\n");
-            STOPPED
-        }
-    }
+    Ok(())
 }

@@ -1,115 +1,68 @@
-// The fields of a line, each from a place on up to the byte that ends it. The place after that byte is answered, and `LOST` where the
-// field can't be read: from there on nothing can.
-ghost use Rattle.std.specs.Prelude.{◌≤◌, length};
+// The fields of a case: `None` where a field can't be read.
 
-const LOST: usize = 18446744073709551615;
-
-// A number, or how many bytes were read, and the place after it.
-#[derive(Clone, Copy)]
-pub(crate) struct Field {
-    pub(crate) value: usize,
-    pub(crate) next: usize,
+// What stands before the first such byte of a text, and what after it.
+pub(crate) fn split_once(text: &[u8], byte: u8) -> Option<(&[u8], &[u8])> {
+    let place = text.iter().position(|b| *b == byte)?;
+    Some((&text[..place], &text[place + 1..]))
 }
 
-// The place after a byte, where it stands at this place.
-fn past(line: &[u8], at: usize, byte: u8) -> usize {
-    if line.len() <= at {
-        LOST
-    } else if line[at] != byte {
-        LOST
-    } else {
-        at + 1
+// A number in decimal, of one digit at least and below 2^64.
+pub(crate) fn number(digits: &[u8]) -> Option<usize> {
+    if digits.is_empty() {
+        return None;
     }
-}
-
-// A number in decimal, of one digit at least. One over 64 bits stops at a digit, which ends no field.
-pub(crate) fn number_at(line: &[u8], at: usize, end: u8) -> Field {
-    let mut value = 0;
-    let mut i = at;
-    while i < line.len() {
-        let d = text::value_of(line[i]) as usize;
+    let mut value: usize = 0;
+    for digit in digits {
+        let d = text::value_of(*digit);
         if 9 < d {
-            break;
+            return None;
         }
-        if (18446744073709551615 - d) / 10 < value {
-            break;
-        }
-        value = 10 * value + d;
-        i += 1;
+        value = value.checked_mul(10)?.checked_add(d as usize)?;
     }
-    if i == at {
-        Field {
-            value: 0,
-            next: LOST,
-        }
-    } else {
-        Field {
-            value,
-            next: past(line, i, end),
-        }
+    Some(value)
+}
+
+// The byte of two hexadecimal digits.
+fn byte_of(high: u8, low: u8) -> Option<u8> {
+    let h = text::value_of(high);
+    let l = text::value_of(low);
+    if 15 < h || 15 < l {
+        return None;
+    }
+    Some(16 * h + l)
+}
+
+// Pairs of hexadecimal digits, as the first bytes of a slice.
+fn fill(bytes: &mut [u8], digits: &[u8]) -> Option<()> {
+    let (pairs, rest) = digits.as_chunks::<2>();
+    if !rest.is_empty() || bytes.len() < pairs.len() {
+        return None;
+    }
+    for (byte, [high, low]) in bytes.iter_mut().zip(pairs) {
+        *byte = byte_of(*high, *low)?;
+    }
+    Some(())
+}
+
+// Makes the other bytes of a slice what its first bytes are, again and again.
+fn repeat(bytes: &mut [u8], period: usize) {
+    for i in period..bytes.len() {
+        bytes[i] = bytes[i - period];
     }
 }
 
-// Fills a buffer with what its first bytes are, again and again.
-fn repeat(out: &mut [u8], period: usize) {
-    let mut i = period;
-    while i < out.len() {
-        out[i] = out[i - period];
-        i += 1;
-    }
-}
-
-// The place after so many hexadecimal digits and, where it follows, the sign that their bytes are repeated.
-fn after_digits(line: &[u8], at: usize, out: &mut [u8], digits: usize) -> usize {
-    let star = past(line, at, b'*');
-    if digits % 2 != 0 {
-        LOST
-    } else if star == LOST {
-        at
-    } else if digits == 0 {
-        LOST
-    } else {
-        repeat(out, digits / 2);
-        star
-    }
-}
-
-// Pairs of hexadecimal digits, as the first of at most n bytes; one byte more stops at a digit, which ends no field. The buffer has zeros
-// before.
-fn hex_at(line: &[u8], at: usize, out: &mut [u8], n: usize) -> usize
-    requires { n ≤ length out.old }
-{
-    let mut i = at;
-    while i < line.len() {
-        let d = text::value_of(line[i]);
-        if 15 < d {
-            break;
+// LENGTH:HEX or LENGTH:HEX*, as the first bytes of a buffer of zeros.
+pub(crate) fn bytes<'a>(field: &[u8], buffer: &'a mut [u8]) -> Option<&'a mut [u8]> {
+    let (length, hex) = split_once(field, b':')?;
+    let bytes = buffer.get_mut(..number(length)?)?;
+    match hex {
+        [] => {}
+        [b'*'] => return None,
+        [digits @ .., b'*'] => {
+            fill(bytes, digits)?;
+            repeat(bytes, digits.len() / 2);
         }
-        let k = (i - at) / 2;
-        if n <= k {
-            break;
-        }
-        out[k] = out[k] % 16 * 16 + d;
-        i += 1;
+        digits => fill(bytes, digits)?,
     }
-    after_digits(line, i, out, i - at)
-}
-
-// LENGTH:HEX or LENGTH:HEX*, into a buffer of zeros.
-pub(crate) fn bytes_at(line: &[u8], at: usize, end: u8, out: &mut [u8]) -> Field
-    ensures { result.value ≤ length out.old }
-{
-    let count = number_at(line, at, b':');
-    let n = count.value;
-    if out.len() < n {
-        return Field {
-            value: 0,
-            next: LOST,
-        };
-    }
-    let stop = hex_at(line, count.next, out, n);
-    Field {
-        value: n,
-        next: past(line, stop, end),
-    }
+    Some(bytes)
 }

@@ -1,8 +1,5 @@
 -- What a step gave, as a person reads it, and which line of a sheet it is that can't be taken.
-use Rattle.std.specs.Prelude.{ℕ, ◌+◌, ◌<◌, ◌≤◌, ◌≡◌, cond, ◌&&◌, List, [], ◌∷◌, ◌++◌, eqb, leb, ltb, length, take, drop, get_or}
-use Rattle.std.proofs.Common.{add-one, drop_of_length-le}
-use Rattle.std.proofs.Math.Seq.{drop-cons}
-use Rattle.text.specs.Put.{Text, put_of, puts_of}
+use Rattle.std.specs.Prelude.{ℕ, cond, ◌&&◌, List, [], ◌∷◌, ◌++◌, eqb, leb, ltb, length, take}
 use Rattle.text.specs.Ascii.{ascii}
 use Rattle.text.specs.Digits.{decimal_of, each_of}
 use Rattle.sheet.specs.declared.meaning.Fault.{Fault}
@@ -32,19 +29,6 @@ shown_byte c = cond (leb 32 c && ltb c 127) c 63
 unfoldable pub shown_of : List ℕ → List ℕ
 shown_of [] = []
 shown_of (c ∷ cs) = shown_byte c ∷ shown_of cs
-
--- a list of which i bytes are put
-module _ (t : Text) (bs : List ℕ) (i : ℕ) where
-  pub shown_done : length bs ≤ i → puts_of t (shown_of (drop i bs)) ≡ t
-  unfolding shown_of puts_of
-  shown_done h = rw (drop_of_length-le bs h)
-
-  pub shown_next : {u : Text} {b : ℕ} → i < length bs → u ≡ put_of t b → b ≡ shown_byte (get_or bs i 0) → puts_of t (shown_of (drop i bs)) ≡ puts_of u (shown_of (drop (i + 1) bs))
-  unfolding shown_of puts_of
-  shown_next h e f = rw (add-one, drop-cons bs i 0, e, f)
-
-pub shown_part : (t : Text) {u : Text} {xs ys : List ℕ} → xs ≡ ys → u ≡ puts_of t (shown_of xs) → u ≡ puts_of t (shown_of ys)
-shown_part t e f = rw (← e) f
 
 -- the line's number, after a text, and what it says
 abbrev pub place_of : List ℕ → ℕ → List ℕ → List ℕ

@@ -1,63 +1,55 @@
 // Which line of a sheet it is, and what is wrong with it.
 ghost use Rattle.std.specs.Prelude.{◌≡◌};
-ghost use Rattle.text.specs.Put.{puts_of};
+ghost use Rattle.text.specs.Page.{Puts};
 ghost use Rattle.wording.specs.Wording.{shown_byte, shown_of, place_of, fault_of};
 
 use sheet::Fault;
+use text::Page;
 
 // A byte that is printed as it is, or `?`.
 fn shown_byte(c: u8) -> u8
     ensures { result ≡ shown_byte c }
 {
-    if c < 32 {
-        return b'?';
+    match c {
+        32..=126 => c,
+        _ => b'?',
     }
-    if 126 < c {
-        return b'?';
-    }
-    c
 }
 
-fn put_shown(out: &mut [u8], at: usize, bytes: &[u8]) -> usize
-    ensures { (out.new, result) ≡ puts_of (out.old, at) (shown_of bytes.now) }
+#[tactic(auto, using(crate::proofs::Shown::shown_take), unfolding(crate::specs::Wording::shown_of, text::specs::Put::puts_of))]
+fn put_shown(page: &mut Page, bytes: &[u8])
+    ensures { Puts page.old page.new (shown_of bytes.now) }
 {
-    let n = bytes.len();
-    let mut next = at;
-    let mut i = 0;
-    while i < n {
-        next = text::put(out, next, shown_byte(bytes[i]));
-        i += 1;
+    for byte in bytes {
+        page.put(shown_byte(*byte));
     }
-    next
 }
 
 // The line's number, and up to 60 bytes of what it says.
-pub fn put_place(out: &mut [u8], before: &[u8], number: u64, text: &[u8]) -> usize
-    ensures { (out.new, result) ≡ puts_of (out.old, 0) (place_of before.now number text.now) }
+#[tactic(auto, using(text::proofs::Puts::puts_append))]
+pub fn put_place(page: &mut Page, before: &[u8], number: u64, text: &[u8])
+    ensures { Puts page.old page.new (place_of before.now number text.now) }
 {
-    let a = text::put_all(out, 0, before);
-    let b = text::put_decimal(out, a, number);
-    let c = text::put_all(out, b, b": ");
-    let d = put_shown(out, c, text::first(text, 60));
-    text::put_all(out, d, b": ")
+    page.put_all(before);
+    page.put_decimal(number);
+    page.put_all(b": ");
+    put_shown(page, text::first(text, 60));
+    page.put_all(b": ");
 }
 
-pub fn put_fault(out: &mut [u8], at: usize, fault: Fault) -> usize
-    ensures { (out.new, result) ≡ puts_of (out.old, at) (fault_of fault) }
+#[tactic(auto, unfolding(crate::specs::Wording::fault_of))]
+pub fn put_fault(page: &mut Page, fault: Fault)
+    ensures { Puts page.old page.new (fault_of fault) }
 {
     match fault {
-        Fault::LongLine => text::put_all(out, at, b"it is longer than 65535 bytes"),
-        Fault::BareNumber => text::put_all(
-            out,
-            at,
+        Fault::LongLine => page.put_all(b"it is longer than 65535 bytes"),
+        Fault::BareNumber => page.put_all(
             b"a number alone is not read: write push N to enter it, or literal N for a literal",
         ),
-        Fault::BadPush => text::put_all(out, at, b"push takes a whole number from -65535 to 65535"),
-        Fault::BadLiteral => text::put_all(out, at, b"literal takes a whole number from 0 to 255"),
-        Fault::BadEdition => text::put_all(out, at, b"edition takes shipped or mended"),
-        Fault::NoStep => text::put_all(
-            out,
-            at,
+        Fault::BadPush => page.put_all(b"push takes a whole number from -65535 to 65535"),
+        Fault::BadLiteral => page.put_all(b"literal takes a whole number from 0 to 255"),
+        Fault::BadEdition => page.put_all(b"edition takes shipped or mended"),
+        Fault::NoStep => page.put_all(
             b"a line is five bytes in hex as 00 00 04 00 00, push N, literal N, a literal's name, or edition NAME",
         ),
     }

@@ -1,6 +1,0 @@
--- `put_count` meets its contract: its parts, one after the other.
-use Rattle.text.specs.Put.{puts_then}
-use Rattle.telling.proofs.verdicts.put_count.Goals as goal
-
-pub returns : goal.returns
-returns c = puts_then _ _ _ c.put_all-digits.ensures c.put_decimal.ensures
