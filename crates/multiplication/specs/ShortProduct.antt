@@ -1,5 +1,5 @@
 -- The product of two short numbers is exact: nothing is rounded, and the full route makes of them the full number of its value.
-use Rattle.std.specs.Prelude.{◌≡◌, true, false, ◌||◌, ℕ, ◌+◌, ◌*◌, ◌-◌, ◌^◌, ◌/◌, ◌%◌, ◌≤◌, ◌<◌, Option, MatchOption}
+use Rattle.std.specs.Prelude.{◌≡◌, true, false, ◌||◌, ℕ, ◌+◌, ◌*◌, ◌-◌, ◌^◌, ◌/◌, ◌%◌, ◌≤◌, ◌<◌, Option, Some, MatchOption}
 use Rattle.std.proofs.Common.{sym, ◌∙◌, ap, ap₂, mul_right_comm, mul-le-mul, mul_assoc, zero-mul, mul-zero, arith, eq-eqb, ne_eqb, pow-add}
 use Rattle.std.specs.Int.Count.{count_leading_zeros}
 use Rattle.number.specs.declared.Number.{Number}
