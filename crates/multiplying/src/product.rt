@@ -9,6 +9,7 @@ ghost use Rattle.multiplying.specs.Product.{Pair, Factored};
 
 use ending::Answer;
 use literals::table;
+use number::Number;
 use operands::store;
 
 pub fn multiply(stack: &mut [u8], depth: &mut usize) -> u8
@@ -53,7 +54,10 @@ fn short_route(stack: &mut [u8], depth: &mut usize, old: usize) -> u8
         stack,
         depth,
         old,
-        Answer::Done(product),
+        Answer::Done(Number {
+            b1: product.b1,
+            word: product.word,
+        }),
         table::MULTIPLY_TAKES,
         table::MULTIPLY_LEAVES,
     )
