@@ -1,5 +1,5 @@
 -- `re_stack` meets its contract: each way out is a case of the operation; a full number stays.
-use Rattle.std.proofs.Common.{ap, ap₂, arith, false, mod-eq_of_lt, refl, sym, ℕ, ◌∙◌, ◌≡◌}
+use Rattle.std.proofs.Common.{Some, ap, ap₂, arith, false, mod-eq_of_lt, refl, sym, ℕ, ◌∙◌, ◌≡◌}
 use Rattle.std.proofs.lemmas.Option.{MatchOption-at_none, MatchOption-at_some}
 use Rattle.edition.specs.declared.Edition.{Edition}
 use Rattle.edition.specs.declared.Edition.TheVariants.{Shipped}
@@ -10,6 +10,7 @@ use Rattle.number.specs.Operand.{Unpacks}
 use Rattle.number.proofs.OperandLaws.{unpacks_short}
 use Rattle.number.specs.Restack.{restacked}
 use Rattle.number.proofs.RestackLaws.{restack_full}
+use Rattle.ending.specs.Ending.{Answer}
 use Rattle.slots.specs.Reach.{lacking, number_at}
 use Rattle.literals.specs.Literals.{row_of}
 use Rattle.literals.proofs.WayLaws.{one_lacking, one_malformed, one_put, one_kept}
