@@ -4,7 +4,7 @@ use Rattle.std.specs.List.{list_any, fold}
 use Rattle.std.specs.Simd.{first_chunks}
 use Rattle.std.proofs.Math.Path.{refl, sym, ap}
 use Rattle.std.proofs.Math.Bool.{or_assoc, or-false}
-use Rattle.std.proofs.Common.{◌∙◌, arith, drop-cons, drop-drop, take-append-drop}
+use Rattle.std.proofs.Common.{◌∙◌, arith, drop-cons, drop-drop, take-append-drop, get_or-drop}
 use Rattle.std.proofs.lemmas.Bool.{false≢true}
 use Rattle.std.proofs.lemmas.List.Folds.{list_any-append}
 use borrow.Author.Tests.{ltb-true, ltb-false}
@@ -29,7 +29,7 @@ module _ (x : List ℕ) (long : length x ≡ 16) where
       ) refl
 
   -- with byte 8 below them bytes 9 to 15 make a number, which is a byte exactly where they are zero
-  pub stray_by : b 8 < 256 → (j : ℕ)
+  stray_by : b 8 < 256 → (j : ℕ)
       → j ≡ b 8 + 256 * b 9 + 65536 * b 10 + 16777216 * b 11 + 4294967296 * b 12 + 1099511627776 * b 13 + 281474976710656 * b 14 + 72057594037927936 * b 15
       → ltb 255 j ≡ stray_one x
   stray_by l j e = go (ltb 255 j) refl
@@ -47,6 +47,17 @@ module _ (x : List ℕ) (long : length x ≡ 16) where
           let z : (b 9 ≡ 0) × (b 10 ≡ 0) × (b 11 ≡ 0) × (b 12 ≡ 0) × (b 13 ≡ 0) × (b 14 ≡ 0) × (b 15 ≡ 0) =
           (omega arith, omega arith, omega arith, omega arith, omega arith, omega arith, omega arith) in
           ap not (same_by true (λ t. rest_is ∙ rw (z.0, z.1, z.2, z.3, z.4, z.5, z.6) refl) (λ t. refl))
+
+  -- as its last eight bytes
+  module _ (last : List ℕ) (d : last ≡ drop 8 x) where
+    at : (k : ℕ) → get_or last k 0 ≡ get_or x (8 + k) 0
+    at k = rw d (get_or-drop 8 x k 0)
+
+    pub stray_last : get_or x 8 0 < 256 → (j : ℕ)
+        → j ≡ get_or last 0 0 + 256 * get_or last 1 0 + 65536 * get_or last 2 0 + 16777216 * get_or last 3 0 + 4294967296 * get_or last 4 0 + 1099511627776 * get_or last 5 0
+        + 281474976710656 * get_or last 6 0 + 72057594037927936 * get_or last 7 0
+        → ltb 255 j ≡ stray_one x
+    stray_last l j e = stray_by l j (omega (arith, e, at 0, at 1, at 2, at 3, at 4, at 5, at 6, at 7))
 
 -- one record after another
 any_stray : (n : ℕ) (r : List ℕ) → list_any stray_one (first_chunks 16 n r) ≡ stray n r

@@ -10,10 +10,8 @@ const MOST_BYTES: usize = 64000;
 fn is_stray(bytes: &[u8; 16]) -> bool
     ensures { result ≡ stray_one bytes.now }
 {
-    let last = [
-        bytes[8], bytes[9], bytes[10], bytes[11], bytes[12], bytes[13], bytes[14], bytes[15],
-    ];
-    255 < u64::from_le_bytes(last)
+    let last = bytes.last_chunk().unwrap();
+    255 < u64::from_le_bytes(*last)
 }
 
 // All are read before any is looked at: there is then one test for eight records.
