@@ -1,6 +1,6 @@
 // A sheet that is answered: its steps are done on a stack, and each line's answer is written.
 use edition::Edition;
-use lines::Sheet;
+use lines::Follower;
 use standard::say;
 use std::io::{Read, Write};
 
@@ -21,8 +21,8 @@ struct Answering<W, E> {
     owed: bool,
 }
 
-impl<W: Write, E: Write> Sheet for Answering<W, E> {
-    fn line(&mut self, line: &[u8]) {
+impl<W: Write, E: Write> Follower for Answering<W, E> {
+    fn follow_line(&mut self, line: &[u8]) {
         let mut answer = [0u8; 64];
         let mut complaint = [0u8; 256];
         let done = reply::answer_line(

@@ -4,5 +4,5 @@
 mod following;
 mod line;
 
-pub use following::{Sheet, follow};
+pub use following::{Follower, follow};
 pub use line::Line;

@@ -1,5 +1,5 @@
 // A sheet that is recorded: its steps are done on a stack, and each has its record.
-use lines::Sheet;
+use lines::Follower;
 use standard::say;
 use std::io::{Read, Write};
 
@@ -17,9 +17,9 @@ struct Entering<E> {
     going: bool,
 }
 
-impl<E: Write> Sheet for Entering<E> {
+impl<E: Write> Follower for Entering<E> {
     // After a line that can't be taken, what was read with it is passed over.
-    fn line(&mut self, line: &[u8]) {
+    fn follow_line(&mut self, line: &[u8]) {
         if !self.going {
             return;
         }

@@ -61,7 +61,7 @@ fn put_cell(page: &mut Page, cell: Cell) {
         Cell::Blank => (b'B', 0),
         Cell::Odd => (b'O', 0),
         // A cell's value is never a NaN. The test says so here.
-        Cell::Value(x) => (b'V', if x == x { x.to_bits() } else { 0 }),
+        Cell::Value(x) => (b'V', if x.is_nan() { 0 } else { x.to_bits() }),
     };
     page.put(letter);
     put_number(page, n, b'\n');
