@@ -13,11 +13,7 @@ pub(crate) fn decimal_in(most: u32, text: &[u8]) -> Option<u32>
     }
     let mut value = 0;
     for c in text {
-        let digit = text::value_of(*c) as u32;
-        if 9 < digit {
-            return None;
-        }
-        value = 10 * value + digit;
+        value = 10 * value + text::digit(*c, 10)?;
         if most < value {
             return None;
         }

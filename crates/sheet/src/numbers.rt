@@ -12,21 +12,23 @@ pub(crate) fn number_of(text: &[u8]) -> Option<Number>
     let mut steps: u64 = 0;
     let mut value: u64 = 0;
     for c in text {
-        let digit = text::value_of(*c) as u64;
-        if digit < 16 {
-            if steps % 3 == 2 {
-                return None;
+        match text::digit(*c, 16) {
+            Some(digit) => {
+                if steps % 3 == 2 {
+                    return None;
+                }
+                steps += 1;
+                value = 16 * (value % 68719476736) + digit as u64;
             }
-            steps += 1;
-            value = 16 * (value % 68719476736) + digit;
-        } else {
-            if steps % 3 == 1 {
-                return None;
+            None => {
+                if steps % 3 == 1 {
+                    return None;
+                }
+                if !is_blank(*c) {
+                    return None;
+                }
+                steps = 3 * ((steps + 1) / 3);
             }
-            if !is_blank(*c) {
-                return None;
-            }
-            steps = 3 * ((steps + 1) / 3);
         }
     }
     if steps != 14 {

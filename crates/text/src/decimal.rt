@@ -2,7 +2,7 @@
 ghost use Rattle.text.specs.Digits.{decimal_of};
 ghost use Rattle.text.specs.Page.{Puts};
 
-use crate::digit::digit_of;
+use crate::digits::digit_of;
 use crate::page::Page;
 
 impl Page<'_> {

@@ -2,9 +2,9 @@
 #![tactic(auto)]
 
 mod decimal;
-mod digit;
+mod digits;
 mod hexadecimal;
 mod page;
 
-pub use hexadecimal::value_of;
+pub use hexadecimal::digit;
 pub use page::{Page, first};

@@ -1,5 +1,5 @@
 -- `decimal_in` meets its contract: the digits from here on give the whole.
-use Rattle.std.proofs.Common.{rules, arith, sym, ◌∙◌}
+use Rattle.std.proofs.Common.{rules, arith, refl, sym, ◌∙◌}
 use Rattle.sheet.proofs.DecimalLaws.{decimal_empty, decimal_any, decimal_none, decimal_over, decimal_next, decimal_done}
 use Rattle.sheet.proofs.decimal.decimal_in.Goals as goal
 
@@ -9,17 +9,19 @@ returns-then-is_empty-clause-value c = sym (decimal_empty _ _ (search rules))
 pub loop-c-init : goal.loop-c-init
 loop-c-init c = (decimal_any _ _ (search rules), omega arith)
 
-pub returns-then-digit-gt9-clause-value : goal.returns-then-digit-gt9-clause-value
-returns-then-digit-gt9-clause-value c =
-    sym (decimal_none _ _ _ _ c.loop-c-test.true c.value_of-digit.ensures c.if-digit-gt9.true) ∙ c.loop-c.invariant.0
+pub returns-in_err-value-clause-value : goal.returns-in_err-value-clause-value
+returns-in_err-value-clause-value c =
+    c.from_residual.ensures ∙ sym (decimal_none _ _ _ _ c.loop-c-test.true refl (omega (arith, c.in_err-value.ensures))) ∙ c.loop-c.invariant.0
 
 pub returns-then-most-value-clause-value : goal.returns-then-most-value-clause-value
 returns-then-most-value-clause-value c =
-    sym (decimal_over _ _ _ _ c.loop-c-test.true c.value_of-digit.ensures c.if-digit-gt9.false c.if-most-value.true) ∙ c.loop-c.invariant.0
+    let digit = c.in_ok-value.ensures in
+    sym (decimal_over _ _ _ _ c.loop-c-test.true digit.1 (omega (arith, digit)) c.if-most-value.true) ∙ c.loop-c.invariant.0
 
 pub loop-c-preserved : goal.loop-c-preserved
 loop-c-preserved c =
-    (sym (decimal_next _ _ _ _ c.loop-c-test.true c.value_of-digit.ensures c.if-digit-gt9.false c.if-most-value.false) ∙ c.loop-c.invariant.0, c.if-most-value.false)
+    let digit = c.in_ok-value.ensures in
+    (sym (decimal_next _ _ _ _ c.loop-c-test.true digit.1 (omega (arith, digit)) c.if-most-value.false) ∙ c.loop-c.invariant.0, c.if-most-value.false)
 
 pub returns-clause-value : goal.returns-clause-value
 returns-clause-value c = sym (decimal_done _ _ _ _ c.loop-c-test.false) ∙ c.loop-c.invariant.0

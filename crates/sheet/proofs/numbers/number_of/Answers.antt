@@ -1,32 +1,34 @@
 -- `number_of` meets its contract: what follows so many steps gives the whole.
-use Rattle.std.proofs.Common.{arith, sym, ◌∙◌}
+use Rattle.std.proofs.Common.{arith, refl, sym, ◌∙◌}
 use Rattle.sheet.proofs.NumbersLaws.{number_done, number_short, number_digit, number_third, number_half, number_blank, number_other}
-use Rattle.sheet.proofs.numbers.number_of.Goals.{then-digit-lt16+else-steps-eq2, else-digit-lt16+else-steps-eq1+else-not-is_blank}
+use Rattle.sheet.proofs.numbers.number_of.Goals.{in-Some+else-steps-eq2, in-None+else-steps-eq1+else-not-is_blank}
 use Rattle.sheet.proofs.numbers.number_of.Goals as goal
 
 pub returns-then-steps-eq2 : goal.returns-then-steps-eq2
 returns-then-steps-eq2 c =
-    sym (number_third _ _ _ _ c.loop-c-test.true _ c.value_of-digit.ensures c.if-digit-lt16.true c.if-steps-eq2.true) ∙ c.loop-c.invariant.0
+    let digit = c.in-Some.ensures in
+    sym (number_third _ _ _ _ c.loop-c-test.true _ digit.1 (omega (arith, digit)) c.if-steps-eq2.true) ∙ c.loop-c.invariant.0
 
 pub returns-then-steps-eq1 : goal.returns-then-steps-eq1
 returns-then-steps-eq1 c =
-    sym (number_half _ _ _ _ c.loop-c-test.true _ c.value_of-digit.ensures c.if-digit-lt16.false c.if-steps-eq1.true) ∙ c.loop-c.invariant.0
+    sym (number_half _ _ _ _ c.loop-c-test.true _ refl (omega (arith, c.in-None.ensures)) c.if-steps-eq1.true) ∙ c.loop-c.invariant.0
 
 pub returns-then-not-is_blank : goal.returns-then-not-is_blank
 returns-then-not-is_blank c =
     let other = sym c.is_blank.ensures ∙ c.if-not-is_blank.true in
-    sym (number_other _ _ _ _ c.loop-c-test.true _ c.value_of-digit.ensures c.if-digit-lt16.false c.if-steps-eq1.false other) ∙ c.loop-c.invariant.0
+    sym (number_other _ _ _ _ c.loop-c-test.true _ refl (omega (arith, c.in-None.ensures)) c.if-steps-eq1.false other) ∙ c.loop-c.invariant.0
 
 pub loop-c-preserved : goal.loop-c-preserved
 loop-c-preserved c =
     let l = c.loop-c in
-    elim c.if-digit-lt16.branch [
-      | then-digit-lt16+else-steps-eq2 w ↦
-          let next = number_digit _ _ _ _ c.loop-c-test.true _ c.value_of-digit.ensures w.if-digit-lt16.true w.if-steps-eq2.false in
-          rw (w.steps-is, w.value-is) (sym next ∙ l.invariant.0, omega (arith, l.invariant.1), omega (arith, w.if-digit-lt16.true))
-      | else-digit-lt16+else-steps-eq1+else-not-is_blank w ↦
+    elim c.match-digit.branch [
+      | in-Some+else-steps-eq2 w ↦
+          let digit = w.in-Some.ensures in
+          let next = number_digit _ _ _ _ c.loop-c-test.true _ digit.1 (omega (arith, digit)) w.if-steps-eq2.false in
+          rw (w.steps-is, w.value-is) (sym next ∙ l.invariant.0, omega (arith, l.invariant.1), omega (arith, digit))
+      | in-None+else-steps-eq1+else-not-is_blank w ↦
           let blank = sym w.is_blank.ensures ∙ w.if-not-is_blank.false in
-          let next = number_blank _ _ _ _ c.loop-c-test.true _ c.value_of-digit.ensures w.if-digit-lt16.false w.if-steps-eq1.false blank in
+          let next = number_blank _ _ _ _ c.loop-c-test.true _ refl (omega (arith, w.in-None.ensures)) w.if-steps-eq1.false blank in
           rw (w.steps-is, w.value-is) (sym next ∙ l.invariant.0, omega (arith, l.invariant.1, w.if-steps-eq1.false), l.invariant.2)
     ]
 
