@@ -1,5 +1,5 @@
 -- `negate` meets its contract: an odd operand is refused, and negation is the same in both editions.
-use Rattle.std.proofs.Common.{refl, sym, ◌∙◌}
+use Rattle.std.proofs.Common.{Some, refl, sym, ◌∙◌}
 use Rattle.number.specs.Negate.{negated}
 use Rattle.literals.specs.Literals.{row_of}
 use Rattle.odd.specs.EitherLaws.{top_refused, top_same}

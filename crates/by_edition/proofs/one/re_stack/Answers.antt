@@ -1,5 +1,5 @@
 -- `re_stack` meets its contract: an odd operand is refused, and re-stacking is the same in both editions.
-use Rattle.std.proofs.Common.{refl, sym, ◌∙◌}
+use Rattle.std.proofs.Common.{Some, refl, sym, ◌∙◌}
 use Rattle.number.specs.Restack.{restacked}
 use Rattle.literals.specs.Literals.{row_of}
 use Rattle.odd.specs.EitherLaws.{top_refused, top_same}

@@ -1,5 +1,5 @@
 -- `truncate` meets its contract: an odd operand is refused, and the answer is the shipped edition's, mended.
-use Rattle.std.proofs.Common.{ap, arith, refl, sym, ◌∙◌}
+use Rattle.std.proofs.Common.{Some, ap, arith, refl, sym, ◌∙◌}
 use Rattle.edition.specs.declared.Edition.TheVariants.{Shipped}
 use Rattle.truncation.specs.Truncate.{truncated}
 use Rattle.truncation.specs.MendedLaws.{truncate_mended}
