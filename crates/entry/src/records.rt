@@ -1,6 +1,7 @@
 // A step, and its record.
 ghost use Rattle.std.specs.Prelude.{◌≡◌};
 ghost use Rattle.text.specs.Page.{Puts, written};
+ghost use Rattle.slots.specs.Numbers.{number_of};
 ghost use Rattle.replaying.specs.Made.{record_with};
 ghost use Rattle.entry.specs.Entry.{five_of, said_kept};
 
@@ -23,10 +24,10 @@ fn put_five(page: &mut Page, top: &[u8])
 
 #[tactic(auto, using(text::proofs::Puts::puts_append), unfolding(text::specs::Put::puts_of))]
 fn put_record(page: &mut Page, literal: u8, done: Outcome, top: &[u8])
-    ensures { Puts page.old page.new (record_with literal done.report done.depth (five_of top.now)) }
+    ensures { Puts page.old page.new (record_with literal (number_of done.report) done.depth (five_of top.now)) }
 {
     let [low, high, ..] = done.depth.to_le_bytes();
-    page.put_all(&[literal, done.report, low, high]);
+    page.put_all(&[literal, done.report.number(), low, high]);
     put_five(page, top);
     page.put_all(&[0; 7]);
 }

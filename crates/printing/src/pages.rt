@@ -3,6 +3,8 @@ ghost use Rattle.std.specs.Prelude.{◌≡◌, ◌≤◌};
 ghost use Rattle.text.specs.Page.{Puts};
 ghost use Rattle.recording.specs.Recording.{records};
 ghost use Rattle.replaying.specs.Replay.{replay_of};
+ghost use Rattle.slots.specs.Numbers.{number_of};
+ghost use Rattle.replaying.specs.Answer.{verdict_of};
 ghost use Rattle.replaying.specs.Bounds.{spoken};
 ghost use Rattle.telling.specs.Verdict.{printed};
 ghost use Rattle.printing.specs.Page.{done_lines, page_of};
@@ -14,15 +16,15 @@ use text::Page;
 // The records as far as they were done, and what the last of them gave where it differs.
 #[tactic(auto, using(text::proofs::Puts::puts_append), unfolding(replaying::specs::Bounds::spoken, crate::specs::Page::done_lines, text::specs::Put::puts_of))]
 fn put_done(page: &mut Page, recording: &[u8], done: Replayed, top: &[u8])
-    requires { spoken done.verdict ≤ records recording.now }
-    ensures { Puts page.old page.new (done_lines recording.now done.verdict done.report done.depth top.now) }
+    requires { spoken (verdict_of done.verdict) ≤ records recording.now }
+    ensures { Puts page.old page.new (done_lines recording.now (verdict_of done.verdict) (number_of done.report) done.depth top.now) }
 {
     match done.verdict {
         Verdict::Agree(n) => put_records(page, n, recording),
         Verdict::Differ(n, _) => {
             put_records(page, n + 1, recording);
             page.put_all(b"  this machine: ");
-            wording::put_step(page, done.report, done.depth, top);
+            wording::put_step(page, done.report.number(), done.depth, top);
         }
         Verdict::Refused(_) => {}
     }

@@ -1,5 +1,6 @@
 // What standard output has of a line.
 ghost use Rattle.text.specs.Page.{Puts};
+ghost use Rattle.slots.specs.Numbers.{number_of};
 ghost use Rattle.reply.specs.Answer.{unreadable_answer, answer_of};
 
 use calculator::Outcome;
@@ -24,11 +25,11 @@ pub(crate) fn put_answer(
     done: Outcome,
     top: &[u8],
 )
-    ensures { Puts page.old page.new (answer_of number said done.report done.depth top.now) }
+    ensures { Puts page.old page.new (answer_of number said (number_of done.report) done.depth top.now) }
 {
     match said {
         Ok(Step::Push(_) | Step::Literal(_)) => {
-            wording::put_step(page, done.report, done.depth, top);
+            wording::put_step(page, done.report.number(), done.depth, top);
         }
         Ok(Step::Nothing | Step::Named(_)) => {}
         Err(_) => put_unreadable(page, number),

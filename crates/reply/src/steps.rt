@@ -1,8 +1,10 @@
 // What a line of the sheet does to the stack.
 ghost use Rattle.std.specs.Prelude.{◌≡◌};
+ghost use Rattle.slots.specs.Numbers.{number_of};
+ghost use Rattle.literals.specs.Operate.{outcome};
 ghost use Rattle.reply.specs.Step.{step_of, edition_after};
 
-use calculator::{Edition, Outcome};
+use calculator::{Edition, Outcome, Report};
 use sheet::{Fault, Step};
 
 #[tactic(auto, unfolding(crate::specs::Step::step_of, slots::specs::Slots::bytes_of))]
@@ -12,12 +14,15 @@ pub(crate) fn step(
     depth: usize,
     said: Result<Step, Fault>,
 ) -> Outcome
-    ensures { step_of edition stack.old depth said ≡ (result, stack.new) }
+    ensures { step_of edition stack.old depth said ≡ (outcome (number_of result.report) result.depth, stack.new) }
 {
     match said {
         Ok(Step::Push(number)) => calculator::push(stack, depth, &number.to_bytes()),
         Ok(Step::Literal(literal)) => calculator::operate_in(edition, stack, depth, literal),
-        Ok(Step::Nothing | Step::Named(_)) | Err(_) => Outcome { report: 0, depth },
+        Ok(Step::Nothing | Step::Named(_)) | Err(_) => Outcome {
+            report: Report::Done,
+            depth,
+        },
     }
 }
 

@@ -1,5 +1,6 @@
 // How a replay ended, in one line.
 ghost use Rattle.text.specs.Page.{Puts};
+ghost use Rattle.replaying.specs.Answer.{verdict_of};
 ghost use Rattle.telling.specs.Verdict.{field_name, verdict_line};
 
 use replaying::{Field, Verdict};
@@ -18,7 +19,7 @@ fn put_field(page: &mut Page, field: Field)
 
 #[tactic(auto, using(text::proofs::Puts::puts_append), unfolding(crate::specs::Verdict::verdict_line, text::specs::Put::puts_of))]
 pub fn put_verdict(page: &mut Page, verdict: Verdict)
-    ensures { Puts page.old page.new (verdict_line verdict) }
+    ensures { Puts page.old page.new (verdict_line (verdict_of verdict)) }
 {
     match verdict {
         Verdict::Agree(n) => {
@@ -31,9 +32,9 @@ pub fn put_verdict(page: &mut Page, verdict: Verdict)
             page.put_decimal(n as u64);
             put_field(page, field);
         }
-        Verdict::Refused(n) => {
+        Verdict::Refused(report) => {
             page.put_all(b"refused ");
-            page.put_decimal(n as u64);
+            page.put_decimal(report.number() as u64);
             page.put(b'\n');
         }
     }

@@ -16,7 +16,7 @@ impl From<Outcome> for Answer {
     fn from(done: Outcome) -> Answer {
         Answer {
             field: None,
-            report: done.report,
+            report: done.report.number(),
             position: 0,
             depth: done.depth,
         }
@@ -27,7 +27,7 @@ impl From<RunOutcome> for Answer {
     fn from(done: RunOutcome) -> Answer {
         Answer {
             field: None,
-            report: done.report,
+            report: done.report.number(),
             position: done.position,
             depth: done.depth,
         }
