@@ -4,21 +4,31 @@ ghost use Rattle.number.specs.Number.{number, low};
 ghost use Rattle.multiplication.specs.Places.{product_at};
 ghost use Rattle.multiplication.specs.ShortProduct.{Multiplied};
 
+<<<<<<< HEAD
 use ending::BIAS;
 use number::{CARRY, Number, TOP_BIT};
+=======
+use ending::Answer;
+use number::{Magnitude, Number};
+>>>>>>> 58eeb6ef9d2b68a60a1f242dba54f0d10499b04d
 
 // Of two numbers whose b1 is 0, each by its b2, as the low byte of a word, and its low half: none where one is malformed. Their product is below 2^32, so nothing
-// is rounded: beyond 65,535 it is the full number of its value, and no number is re-stacked.
+// is rounded: beyond 65,535 it is the full number of its value, and no number is re-stacked. A magnitude is taken apart where it is found: with `?` it stays one
+// machine word of two halves, and a product of short numbers took 75.0 instructions in place of 70.0.
 pub fn short_product(b: u32, h: u16, c: u32, k: u16) -> Option<Number>
     ensures { (w v : ℕ) → w / 2 ^ 24 ≡ b % 256 → low (number 0 w) ≡ h → v / 2 ^ 24 ≡ c % 256 → low (number 0 v) ≡ k → Multiplied (number 0 w) (number 0 v) result }
 {
-    let x = number::magnitude_of(b, h)?;
-    let y = number::magnitude_of(c, k)?;
-    let v = x.v * y.v;
+    let Some(Magnitude { mask: s, v: m }) = number::magnitude_of(b, h) else {
+        return None;
+    };
+    let Some(Magnitude { mask: t, v: n }) = number::magnitude_of(c, k) else {
+        return None;
+    };
+    let v = m * n;
     if v == 0 {
-        return Some(Number { b1: 0, word: 0 });
+        return Some(Number { word: 0, b1: 0 });
     }
-    let sign = (x.mask ^ y.mask) / 2147483648;
+    let sign = (s ^ t) / 2147483648;
     if v < 65536 {
         return Some(Number {
             b1: 0,

@@ -1,6 +1,7 @@
 -- What a replay answers beside the bytes that it leaves, with reports by their numbers, and the code's answer as that.
 use Rattle.std.specs.Prelude.{ℕ}
 use Rattle.slots.specs.Numbers.{number_of}
+use Rattle.replaying.specs.Refusals.{refusal_number}
 use Rattle.replaying.specs.declared.answer.Field.{Field}
 use Rattle.replaying.specs.declared.answer.Verdict.{Verdict as CodeVerdict}
 use Rattle.replaying.specs.declared.answer.Verdict.TheVariants.{Agree as CodeAgree, Differ as CodeDiffer, Refused as CodeRefused}
@@ -23,7 +24,7 @@ pub record Replayed : Type 0 where
 abbrev pub verdict_of : CodeVerdict → Verdict
 verdict_of (CodeAgree n) = Agree n
 verdict_of (CodeDiffer n f) = Differ n f
-verdict_of (CodeRefused r) = Refused (number_of r)
+verdict_of (CodeRefused r) = Refused (refusal_number r)
 
 abbrev pub replayed_of : CodeReplayed → Replayed
 replayed_of r = record { verdict = verdict_of r.verdict; report = number_of r.report; depth = r.depth }

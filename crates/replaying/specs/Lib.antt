@@ -1,3 +1,4 @@
+pub mod Refusals
 pub mod Answer
 pub mod Replay
 pub mod ReplayLaws

@@ -1,6 +1,7 @@
 // What a replay answers beside the bytes that it leaves.
 ghost use Rattle.std.specs.Prelude.{◌≡◌};
 ghost use Rattle.replaying.specs.Fields.{field_number};
+ghost use Rattle.replaying.specs.Refusals.{refusal_number};
 
 use slots::Report;
 
@@ -21,14 +22,29 @@ impl Field {
     }
 }
 
+// Why nothing is replayed.
+#[derive(Clone, Copy)]
+pub enum Refusal {
+    // A stack over its limits.
+    OverLimits = 1,
+    NotARecording = 8,
+}
+
+impl Refusal {
+    pub fn number(self) -> u8
+        ensures { result ≡ refusal_number self }
+    {
+        self as u8
+    }
+}
+
 #[derive(Clone, Copy)]
 pub enum Verdict {
     // How many records there are.
     Agree(usize),
     // The number of the first record that differs, from 0, and its first field that does.
     Differ(usize, Field),
-    // Over the limits, or not a recording.
-    Refused(Report),
+    Refused(Refusal),
 }
 
 #[derive(Clone, Copy)]

@@ -5,6 +5,6 @@ mod answer;
 mod replaying;
 mod steps;
 
-pub use answer::{Field, Replayed, Verdict};
+pub use answer::{Field, Refusal, Replayed, Verdict};
 pub use replaying::replay;
 pub use steps::top_differs;

@@ -1,18 +1,18 @@
 // The replay.
 ghost use Rattle.std.specs.Prelude.{◌≡◌};
-ghost use Rattle.slots.specs.Numbers.{number_of};
+ghost use Rattle.replaying.specs.Refusals.{refusal_number};
 ghost use Rattle.replaying.specs.Answer.{replayed_of};
 ghost use Rattle.replaying.specs.Replay.{refused, replay_of};
 
-use crate::answer::{Replayed, Verdict};
+use crate::answer::{Refusal, Replayed, Verdict};
 use crate::steps;
 use slots::Report;
 
-fn refused(report: Report) -> Replayed
-    ensures { replayed_of result ≡ refused (number_of report) }
+fn refused(refusal: Refusal) -> Replayed
+    ensures { replayed_of result ≡ refused (refusal_number refusal) }
 {
     Replayed {
-        verdict: Verdict::Refused(report),
+        verdict: Verdict::Refused(refusal),
         report: Report::Done,
         depth: 0,
     }
@@ -22,10 +22,10 @@ pub fn replay(stack: &mut [u8], recording: &[u8]) -> Replayed
     ensures { replay_of stack.old recording.now ≡ (replayed_of result, stack.new) }
 {
     if slots::over_limits(stack, 0) {
-        return refused(Report::OverLimits);
+        return refused(Refusal::OverLimits);
     }
     if recording::not_a_recording(recording) {
-        return refused(Report::NotARecording);
+        return refused(Refusal::NotARecording);
     }
     let len = recording.len();
     let mut depth = 0;

@@ -16,8 +16,6 @@ pub enum Report {
     UnknownLiteral = 5,
     // The answer has no exponent byte.
     TooBig = 6,
-    NotARecording = 8,
-    UnknownEdition = 12,
 }
 
 impl Report {

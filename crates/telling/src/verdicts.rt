@@ -32,9 +32,9 @@ pub fn put_verdict(page: &mut Page, verdict: Verdict)
             page.put_decimal(n as u64);
             put_field(page, field);
         }
-        Verdict::Refused(report) => {
+        Verdict::Refused(refusal) => {
             page.put_all(b"refused ");
-            page.put_decimal(report.number() as u64);
+            page.put_decimal(refusal.number() as u64);
             page.put(b'\n');
         }
     }

@@ -14,8 +14,11 @@ ghost use Rattle.replaying.specs.Replay.{replay_of};
 ghost use Rattle.trenailer.specs.Told.{Part, told_of, replay_told};
 ghost use Rattle.trenailer.specs.Numbered.{operate_numbered, run_numbered};
 
-use calculator::{Cell, Edition, Report};
+use calculator::{Cell, Edition};
 use replaying::Verdict;
+
+// The report of a number that no edition has.
+const UNKNOWN_EDITION: u8 = 12;
 
 pub fn trenailer_operate(stack: &mut [u8], depth: &mut usize, literal: u8) -> u8
     ensures { operate_of unnamed stack.old depth.old literal ≡ (outcome result depth.new, stack.new) }
@@ -28,7 +31,7 @@ pub fn trenailer_operate_in(edition: u8, stack: &mut [u8], depth: &mut usize, li
 {
     match Edition::try_from(edition) {
         Ok(edition) => calculator::operate_in_place_in(edition, stack, depth, literal).number(),
-        Err(_) => Report::UnknownEdition.number(),
+        Err(_) => UNKNOWN_EDITION,
     }
 }
 
@@ -72,7 +75,7 @@ pub fn trenailer_run_in(
         }
         Err(_) => {
             *position = 0;
-            Report::UnknownEdition.number()
+            UNKNOWN_EDITION
         }
     }
 }
@@ -146,10 +149,10 @@ pub fn trenailer_replay(
             *field = f.number();
             0
         }
-        Verdict::Refused(report) => {
+        Verdict::Refused(refusal) => {
             *count = 0;
             *field = 0;
-            report.number()
+            refusal.number()
         }
     }
 }

@@ -10,4 +10,4 @@ returns-in-Ok c =
     ∙ ap (λ (n : ℕ). (outcome n c.operate_in_place_in.new.depth, c.operate_in_place_in.new.stack)) (sym c.number.ensures)
 
 pub returns-in-Err : goal.returns-in-Err
-returns-in-Err c = operate_none _ _ _ _ c.in-Err.ensures ∙ ap (λ (n : ℕ). (outcome n c.args.depth.now, c.args.stack.now)) (sym c.number-in-Err.ensures)
+returns-in-Err c = operate_none _ _ _ _ c.in-Err.ensures

@@ -10,4 +10,4 @@ returns-in-Ok c =
     ∙ ap (λ (n : ℕ). (run_outcome n c.run_in-ran.result.position c.run_in-ran.result.depth, c.run_in-ran.new.stack)) (sym c.number.ensures)
 
 pub returns-in-Err : goal.returns-in-Err
-returns-in-Err c = run_none _ _ _ _ c.in-Err.ensures ∙ ap (λ (n : ℕ). (run_outcome n 0 c.args.depth.now, c.args.stack.now)) (sym c.number-in-Err.ensures)
+returns-in-Err c = run_none _ _ _ _ c.in-Err.ensures
