@@ -4,13 +4,8 @@ ghost use Rattle.number.specs.Number.{number, low};
 ghost use Rattle.multiplication.specs.Places.{product_at};
 ghost use Rattle.multiplication.specs.ShortProduct.{Multiplied};
 
-<<<<<<< HEAD
 use ending::BIAS;
-use number::{CARRY, Number, TOP_BIT};
-=======
-use ending::Answer;
-use number::{Magnitude, Number};
->>>>>>> 58eeb6ef9d2b68a60a1f242dba54f0d10499b04d
+use number::{CARRY, Magnitude, Number, TOP_BIT};
 
 // Of two numbers whose b1 is 0, each by its b2, as the low byte of a word, and its low half: none where one is malformed. Their product is below 2^32, so nothing
 // is rounded: beyond 65,535 it is the full number of its value, and no number is re-stacked. A magnitude is taken apart where it is found: with `?` it stays one

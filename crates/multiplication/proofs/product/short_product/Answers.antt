@@ -69,15 +69,9 @@ returns c w v i j k l =
     let word : m e * 2 ^ z % 2 ^ 32 % 2 ^ 31 + 2 ^ 31 * (s e % 2) ≡ m e * 2 ^ z % 2 ^ 31 + 2 ^ 31 * (s e % 2) = omega arith in (
       n.formed,
       product_exact _ _ refl refl (omega arith) (omega arith) (omega (arith, n.product, c.if-v-lt65536.false))
-<<<<<<< HEAD
           ∙ ap₂ (λ (a b : ℕ). Some (full_of_short a b)) (sym n.signs) (sym n.product)
-          ∙ ap (λ (k : ℕ). Some (full_of (s e) (160 - k) (m e * 2 ^ k))) (sym (counted c.before).0)
+          ∙ ap (λ (k : ℕ). Some (full_of (s e) (160 - k) (m e * 2 ^ k))) (sym (counted (goal.at.returns c).After-leading_zeros-places).0)
           ∙ ap (λ (a : ℕ). Some (number (160 - z) a)) (sym (c.full_word.ensures ∙ word)),
-=======
-          ∙ ap₂ (λ (a b : ℕ). Done (full_of_short a b)) (sym n.signs) (sym n.product)
-          ∙ ap (λ (k : ℕ). Done (full_of (s e) (160 - k) (m e * 2 ^ k))) (sym (counted (goal.at.returns c).After-leading_zeros-places).0)
-          ∙ ap (λ (a : ℕ). Done (number (160 - z) a)) (sym (c.full_word.ensures ∙ word)),
->>>>>>> 58eeb6ef9d2b68a60a1f242dba54f0d10499b04d
     )
 
 pub overflow_sub-result : goal.overflow_sub-result
