@@ -1,33 +1,32 @@
--- A literal by its name in the ROM's listing, where 256 stands for none; and an edition by its name.
-use Rattle.std.specs.Prelude.{ℕ, cond, List, eqb, length}
+-- A literal by its name in the ROM's listing, and an edition by its name.
+use Rattle.std.specs.Prelude.{ℕ, cond, List, [], ◌∷◌, Option, Some, None}
+use Rattle.std.specs.Str.{bytes_eq}
 use Rattle.text.specs.Ascii.{ascii}
-use Rattle.words.specs.Begins.{begins}
+use Rattle.edition.specs.declared.Edition.{Edition}
+use Rattle.edition.specs.declared.Edition.TheVariants.{Shipped, Mended}
 
--- the literal where the text is its name, and else what the text may be besides
-unfoldable pub if_named : List ℕ → List ℕ → ℕ → ℕ → ℕ
-if_named s name l other = cond (eqb (length s) (length name)) (cond (begins name s) l other) other
+-- what the first row has of which the text is the name
+unfoldable pub by_name : {A : Type 0} → List (List ℕ × A) → List ℕ → Option A
+by_name [] s = None
+by_name (r ∷ rs) s = cond (bytes_eq r.0 s) (Some r.1) (by_name rs s)
 
--- the later five names
-unfoldable pub later_of : List ℕ → ℕ
-later_of s =
-    if_named s (ascii "negate") 27
-    (if_named s (ascii "int") 39
-    (if_named s (ascii "duplicate") 49
-    (if_named s (ascii "truncate") 58
-    (if_named s (ascii "re-stack") 61
-    256))))
+abbrev pub literals : List (List ℕ × ℕ)
+literals =
+    (ascii "exchange", 1)
+    ∷ (ascii "delete", 2)
+    ∷ (ascii "subtract", 3)
+    ∷ (ascii "multiply", 4)
+    ∷ (ascii "divide", 5)
+    ∷ (ascii "add", 15)
+    ∷ (ascii "negate", 27)
+    ∷ (ascii "int", 39)
+    ∷ (ascii "duplicate", 49)
+    ∷ (ascii "truncate", 58)
+    ∷ (ascii "re-stack", 61)
+    ∷ []
 
--- the first six names, and else those
-unfoldable pub literal_of : List ℕ → ℕ
-literal_of s =
-    if_named s (ascii "exchange") 1
-    (if_named s (ascii "delete") 2
-    (if_named s (ascii "subtract") 3
-    (if_named s (ascii "multiply") 4
-    (if_named s (ascii "divide") 5
-    (if_named s (ascii "add") 15
-    (later_of s))))))
+unfoldable pub literal_of : List ℕ → Option ℕ
+literal_of s = by_name literals s
 
--- 0 shipped, 1 mended; 2 stands for none
-unfoldable pub edition_of : List ℕ → ℕ
-edition_of s = if_named s (ascii "shipped") 0 (if_named s (ascii "mended") 1 2)
+unfoldable pub edition_of : List ℕ → Option Edition
+edition_of s = by_name ((ascii "shipped", Shipped) ∷ (ascii "mended", Mended) ∷ []) s

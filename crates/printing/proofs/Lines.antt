@@ -25,14 +25,17 @@ lines_more zero i r = let e : i + 0 ≡ i = omega arith in rw e (append-nil (rec
 lines_more (suc n) i r =
     let number : i + 1 + n ≡ i + suc n = omega arith in
     let place : 16 + 16 * n ≡ 16 * suc n = omega arith in
-    let last : record_line (i + 1 + n) (first (drop (16 * n) (later r))) ≡ record_line (i + suc n) (first (drop (16 * suc n) r)) = rw (drop-drop (16 * n) 16 r, place, number) refl in
-    ap (λ (xs : List ℕ). record_line i (first r) ++ xs) (lines_more n (i + 1) (later r) ∙ ap (λ (xs : List ℕ). record_lines n (i + 1) (later r) ++ xs) last)
+    let last : record_line (i + 1 + n) (first (drop (16 * n) (later r))) ≡ record_line (i + suc n) (first (drop (16 * suc n) r)) =
+    rw (drop-drop (16 * n) 16 r, place, number) refl in
+    let rest = lines_more n (i + 1) (later r) ∙ ap (λ (xs : List ℕ). record_lines n (i + 1) (later r) ++ xs) last in
+    ap (λ (xs : List ℕ). record_line i (first r) ++ xs) rest
     ∙ sym (append_assoc (record_line i (first r)) (record_lines n (i + 1) (later r)) (record_line (i + suc n) (first (drop (16 * suc n) r))))
 
 pub lines_take : (t : Text) (r : List ℕ) (chunks : List (List ℕ)) (i n : ℕ) → chunks ≡ first_chunks 16 (records r) r → i < length (take n chunks)
     → puts_of t (record_lines (i + 1) 0 r) ≡ puts_of (puts_of t (record_lines i 0 r)) (record_line i (get_or (take n chunks) i []))
 lines_take t r chunks i n e h =
     let within : i < records r = omega (arith, length-take n chunks, ap length e, length_chunks 16 (records r) r) in
-    let here : get_or (take n chunks) i [] ≡ first (drop (16 * i) r) = get_or-take n chunks i [] (omega (arith, length-take n chunks)) ∙ ap (λ (xs : List (List ℕ)). get_or xs i []) e ∙ chunk_at 16 (records r) i r within in
+    let here : get_or (take n chunks) i [] ≡ first (drop (16 * i) r) =
+    get_or-take n chunks i [] (omega (arith, length-take n chunks)) ∙ ap (λ (xs : List (List ℕ)). get_or xs i []) e ∙ chunk_at 16 (records r) i r within in
     let number : 0 + i ≡ i = omega arith in
     rw (here, add-one, lines_more i 0 r, number) (puts_append t (record_lines i 0 r) (record_line i (first (drop (16 * i) r))))

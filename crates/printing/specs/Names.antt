@@ -1,9 +1,8 @@
 -- A literal's name in the ROM's listing, as a sheet has it; 0 is a push in a recording.
-use Rattle.std.specs.Prelude.{ℕ, ◌≡◌, refl, cond, List, ◌++◌, eqb}
+use Rattle.std.specs.Prelude.{ℕ, ◌≡◌, refl, Some, cond, List, ◌++◌, eqb}
 use Rattle.text.specs.Ascii.{ascii}
 use Rattle.text.specs.Digits.{decimal_of}
-use Rattle.words.specs.Begins.{begins}
-use Rattle.naming.specs.Names.{if_named, later_of, literal_of}
+use Rattle.naming.specs.Names.{by_name, literal_of}
 
 -- one that is in no row, as a sheet asks for it
 abbrev pub number_name : ℕ → List ℕ
@@ -26,16 +25,16 @@ name_of l =
     (number_name l))))))))))))
 
 -- a sheet reads each name as its literal
-pub names_read : (literal_of (name_of 1) ≡ 1)
-    × (literal_of (name_of 2) ≡ 2)
-    × (literal_of (name_of 3) ≡ 3)
-    × (literal_of (name_of 4) ≡ 4)
-    × (literal_of (name_of 5) ≡ 5)
-    × (literal_of (name_of 15) ≡ 15)
-    × (literal_of (name_of 27) ≡ 27)
-    × (literal_of (name_of 39) ≡ 39)
-    × (literal_of (name_of 49) ≡ 49)
-    × (literal_of (name_of 58) ≡ 58)
-    × (literal_of (name_of 61) ≡ 61)
-unfolding name_of literal_of later_of if_named begins
+pub names_read : (literal_of (name_of 1) ≡ Some 1)
+    × (literal_of (name_of 2) ≡ Some 2)
+    × (literal_of (name_of 3) ≡ Some 3)
+    × (literal_of (name_of 4) ≡ Some 4)
+    × (literal_of (name_of 5) ≡ Some 5)
+    × (literal_of (name_of 15) ≡ Some 15)
+    × (literal_of (name_of 27) ≡ Some 27)
+    × (literal_of (name_of 39) ≡ Some 39)
+    × (literal_of (name_of 49) ≡ Some 49)
+    × (literal_of (name_of 58) ≡ Some 58)
+    × (literal_of (name_of 61) ≡ Some 61)
+unfolding name_of literal_of by_name
 names_read = (refl, refl, refl, refl, refl, refl, refl, refl, refl, refl, refl)

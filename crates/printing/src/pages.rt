@@ -12,7 +12,7 @@ use replaying::{Replayed, Verdict};
 use text::Page;
 
 // The records as far as they were done, and what the last of them gave where it differs.
-#[tactic(auto, using(text::proofs::Puts::puts_append), unfolding(crate::specs::Page::done_lines, text::specs::Put::puts_of))]
+#[tactic(auto, using(text::proofs::Puts::puts_append), unfolding(replaying::specs::Bounds::spoken, crate::specs::Page::done_lines, text::specs::Put::puts_of))]
 fn put_done(page: &mut Page, recording: &[u8], done: Replayed, top: &[u8])
     requires { spoken done.verdict ≤ records recording.now }
     ensures { Puts page.old page.new (done_lines recording.now done.verdict done.report done.depth top.now) }

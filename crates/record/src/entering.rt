@@ -24,7 +24,7 @@ impl<E: Write> Follower for Entering<E> {
             return;
         }
         let mut complaint = [0u8; 256];
-        let done = entry::record_line(
+        match entry::record_line(
             &mut self.stack,
             self.depth,
             line,
@@ -32,12 +32,17 @@ impl<E: Write> Follower for Entering<E> {
             &mut self.recording,
             self.end,
             &mut complaint,
-        );
-        self.depth = done.depth;
-        self.end = done.end;
+        ) {
+            Ok(recorded) => {
+                self.depth = recorded.depth;
+                self.end = recorded.end;
+            }
+            Err(said) => {
+                say(&mut self.err, text::first(&complaint, said));
+                self.going = false;
+            }
+        }
         self.number = self.number.wrapping_add(1);
-        self.going = done.err == 0;
-        say(&mut self.err, text::first(&complaint, done.err));
     }
 
     fn goes_on(&self) -> bool {

@@ -39,10 +39,13 @@ abbrev pub zeros : ℕ → List ℕ
 zeros zero = []
 zeros (suc n) = 0 ∷ zeros n
 
--- "over 64,000 bytes, a part record, or nonzero bytes 9 to 15", the last of any of n records
+-- "over 64,000 bytes, a part record, or nonzero bytes 9 to 15", the last of a record, and of any of n records
+abbrev pub stray_one : List ℕ → Bool
+stray_one x = not (same (rest_in x) (zeros 7))
+
 unfoldable pub stray : ℕ → List ℕ → Bool
 stray zero r = false
-stray (suc n) r = not (same (rest_in (first r)) (zeros 7)) || stray n (later r)
+stray (suc n) r = stray_one (first r) || stray n (later r)
 
 unfoldable pub not_a_recording : List ℕ → Bool
 not_a_recording r = ltb 64000 (length r) || not (eqb (length r % 16) 0) || stray (records r) r

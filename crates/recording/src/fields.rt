@@ -5,10 +5,7 @@ ghost use Rattle.recording.specs.Recording.{literal_in, report_in, depth_in, top
 fn byte(bytes: &[u8], k: usize) -> u8
     ensures { result ≡ get_or bytes.now k 0 }
 {
-    if bytes.len() <= k {
-        return 0;
-    }
-    bytes[k]
+    bytes.get(k).copied().unwrap_or(0)
 }
 
 pub fn literal_in(bytes: &[u8]) -> u8
@@ -35,11 +32,5 @@ pub fn depth_in(bytes: &[u8]) -> usize
 pub fn top_in(bytes: &[u8]) -> &[u8]
     ensures { result.now ≡ top_in bytes.now }
 {
-    if 9 <= bytes.len() {
-        return &bytes[4..9];
-    }
-    if 4 <= bytes.len() {
-        return &bytes[4..];
-    }
-    &bytes[0..0]
+    bytes.get(4..bytes.len().min(9)).unwrap_or(&[])
 }

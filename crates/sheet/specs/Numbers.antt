@@ -1,14 +1,7 @@
 -- A number of five bytes in hexadecimal, two digits each, with blanks between them.
-use Rattle.std.specs.Prelude.{ℕ, ◌+◌, ◌*◌, ◌/◌, ◌%◌, ◌^◌, ◌<◌, ◌≤◌, ◌≡◌, Result, Ok, Err, true, false, cond, List, [], ◌∷◌, eqb, ltb, length, drop, get_or}
-use Rattle.std.proofs.Math.Numerals.{add-one}
-use Rattle.std.proofs.Common.{drop_of_length-le, drop-cons}
-use borrow.Author.Tests.{lt-ltb, le-ltb, eq-eqb, ne_eqb}
+use Rattle.std.specs.Prelude.{ℕ, ◌+◌, ◌*◌, ◌/◌, ◌%◌, ◌^◌, cond, List, [], ◌∷◌, Option, Some, None, eqb, ltb}
 use Rattle.number.specs.declared.Number.{Number}
 use Rattle.text.specs.Digits.{value_of}
-use Rattle.sheet.specs.declared.meaning.Step.{Step}
-use Rattle.sheet.specs.declared.meaning.Step.TheVariants.{Push}
-use Rattle.sheet.specs.declared.meaning.Fault.{Fault}
-use Rattle.sheet.specs.declared.meaning.Fault.TheVariants.{NoStep}
 use Rattle.words.specs.Blanks.{blank}
 
 -- b1 is the first two of ten digits that come to v
@@ -19,41 +12,10 @@ number v = record { b1 = v / 2 ^ 32; word = v % 2 ^ 32 }
 abbrev pub after_blank : ℕ → ℕ
 after_blank k = 3 * ((k + 1) / 3)
 
--- the line from here on, after k steps, with digits of which the last ten come to v: the fifth byte has no blank after it
-unfoldable pub number_from : ℕ → ℕ → List ℕ → Result Step Fault
-number_from k v [] = cond (eqb k 14) (Ok (Push (number v))) (Err NoStep)
+-- the number from here on, after k steps, with digits of which the last ten come to v: the fifth byte has no blank after it
+unfoldable pub number_from : ℕ → ℕ → List ℕ → Option Number
+number_from k v [] = cond (eqb k 14) (Some (number v)) None
 number_from k v (c ∷ cs) =
     cond (ltb (value_of c) 16)
-    (cond (eqb (k % 3) 2) (Err NoStep) (number_from (k + 1) (16 * (v % 2 ^ 36) + value_of c) cs))
-    (cond (eqb (k % 3) 1) (Err NoStep) (cond (blank c) (number_from (after_blank k) v cs) (Err NoStep)))
-
--- a law a case, for a text of which i bytes are read
-module _ (s : List ℕ) (i k v : ℕ) where
-  pub number_done : length s ≤ i → k ≡ 14 → number_from k v (drop i s) ≡ Ok (Push (number v))
-  unfolding number_from
-  number_done h g = rw (drop_of_length-le s h, g)
-
-  pub number_short : length s ≤ i → (k ≡ 14 → ⊥) → number_from k v (drop i s) ≡ Err NoStep
-  unfolding number_from
-  number_short h g = rw (drop_of_length-le s h) (simp (ne_eqb _ _ g))
-
-  module _ (h : i < length s) (d : ℕ) (e : d ≡ value_of (get_or s i 0)) where
-    pub number_digit : d < 16 → (k % 3 ≡ 2 → ⊥) → number_from k v (drop i s) ≡ number_from (k + 1) (16 * (v % 2 ^ 36) + d) (drop (i + 1) s)
-    unfolding number_from
-    number_digit l g = rw (drop-cons s i 0 h, ← e, add-one i) (simp (lt-ltb _ _ l, ne_eqb _ _ g))
-
-    pub number_third : d < 16 → k % 3 ≡ 2 → number_from k v (drop i s) ≡ Err NoStep
-    unfolding number_from
-    number_third l g = rw (drop-cons s i 0 h, ← e) (simp (lt-ltb _ _ l, eq-eqb _ _ g))
-
-    pub number_half : 16 ≤ d → k % 3 ≡ 1 → number_from k v (drop i s) ≡ Err NoStep
-    unfolding number_from
-    number_half l g = rw (drop-cons s i 0 h, ← e) (simp (le-ltb _ _ l, eq-eqb _ _ g))
-
-    pub number_blank : 16 ≤ d → (k % 3 ≡ 1 → ⊥) → blank (get_or s i 0) ≡ true → number_from k v (drop i s) ≡ number_from (after_blank k) v (drop (i + 1) s)
-    unfolding number_from
-    number_blank l g b = rw (drop-cons s i 0 h, ← e, add-one i) (simp (le-ltb _ _ l, ne_eqb _ _ g, b))
-
-    pub number_other : 16 ≤ d → (k % 3 ≡ 1 → ⊥) → blank (get_or s i 0) ≡ false → number_from k v (drop i s) ≡ Err NoStep
-    unfolding number_from
-    number_other l g b = rw (drop-cons s i 0 h, ← e) (simp (le-ltb _ _ l, ne_eqb _ _ g, b))
+    (cond (eqb (k % 3) 2) None (number_from (k + 1) (16 * (v % 2 ^ 36) + value_of c) cs))
+    (cond (eqb (k % 3) 1) None (cond (blank c) (number_from (after_blank k) v cs) None))

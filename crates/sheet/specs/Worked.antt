@@ -10,8 +10,8 @@ use Rattle.sheet.specs.declared.meaning.Fault.TheVariants.{BareNumber, BadPush, 
 use Rattle.words.specs.Begins.{begins}
 use Rattle.words.specs.Blanks.{byte_order_mark, told_of, unmarked, comment_from, blank, started, end_of}
 use Rattle.sheet.specs.Decimal.{decimal_from, decimal_in}
-use Rattle.words.specs.After.{after}
-use Rattle.naming.specs.Names.{if_named, later_of, literal_of, edition_of}
+use Rattle.words.specs.After.{any_of, after}
+use Rattle.naming.specs.Names.{by_name, literal_of, edition_of}
 use Rattle.sheet.specs.Numbers.{number_from}
 use Rattle.sheet.specs.Line.{Line, line_of, said, pushed, short_pushed, numbered, named, bare, plain}
 
@@ -71,7 +71,7 @@ Marked = (line_of (told_of 1 (byte_order_mark ++ ascii "add")) ≡ Ok (Literal 1
 
 computed : Hold lines × Marked
 unfolding
-    line_of said after pushed short_pushed numbered named bare plain number_from literal_of later_of edition_of if_named decimal_in decimal_from begins unmarked comment_from
+    line_of said any_of after pushed short_pushed numbered named bare plain number_from literal_of edition_of by_name decimal_in decimal_from begins unmarked comment_from
     blank started end_of value_of
 computed = (refl, (refl, refl))
 

@@ -1,35 +1,22 @@
 // A whole number in decimal, up to a limit.
-ghost use Rattle.std.specs.Prelude.{◌≡◌, ◌<◌, min};
+ghost use Rattle.std.specs.Prelude.{◌≡◌, ◌<◌, ◌≤◌, IfSome};
 ghost use Rattle.sheet.specs.Decimal.{decimal_in};
 
-// One over the limit stands for all above it, and for what is no number.
-pub(crate) fn decimal_in(most: u32, text: &[u8]) -> u32
+// None where the text is no number, or the number is over the limit.
+pub(crate) fn decimal_in(most: u32, text: &[u8]) -> Option<u32>
     requires { most < 65536 }
-    ensures { result ≡ decimal_in most text.now }
+    ensures value { result ≡ decimal_in most text.now }
+    ensures bound { IfSome result (λ v. v ≤ most) }
 {
-    let n = text.len();
-    let over = most + 1;
-    if n == 0 {
-        return over;
+    if text.is_empty() {
+        return None;
     }
-    let mut v = 0;
-    let mut i = 0;
-    while i < n {
-        let d = text::value_of(text[i]) as u32;
-        if 9 < d {
-            return over;
+    let mut value = 0;
+    for c in text {
+        value = 10 * value + text::digit(*c, 10)?;
+        if most < value {
+            return None;
         }
-        v = least(10 * v + d, over);
-        i += 1;
     }
-    v
-}
-
-fn least(a: u32, b: u32) -> u32
-    ensures { result ≡ min a b }
-{
-    if a < b {
-        return a;
-    }
-    b
+    Some(value)
 }

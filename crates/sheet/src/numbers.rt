@@ -2,44 +2,40 @@
 ghost use Rattle.std.specs.Prelude.{◌≡◌};
 ghost use Rattle.sheet.specs.Numbers.{number_from};
 
-use crate::meaning::{Fault, Step};
 use number::Number;
 use words::is_blank;
 
-pub(crate) fn number_of(text: &[u8]) -> Result<Step, Fault>
+pub(crate) fn number_of(text: &[u8]) -> Option<Number>
     ensures { result ≡ number_from 0 0 text.now }
 {
-    let n = text.len();
     // Three steps a byte: its two digits, and a blank after them.
-    let mut k: u64 = 0;
-    let mut v: u64 = 0;
-    let mut i = 0;
-    while i < n {
-        let c = text[i];
-        let d = text::value_of(c) as u64;
-        i += 1;
-        if d < 16 {
-            if k % 3 == 2 {
-                return Err(Fault::NoStep);
+    let mut steps: u64 = 0;
+    let mut value: u64 = 0;
+    for c in text {
+        match text::digit(*c, 16) {
+            Some(digit) => {
+                if steps % 3 == 2 {
+                    return None;
+                }
+                steps += 1;
+                value = 16 * (value % 68719476736) + digit as u64;
             }
-            k += 1;
-            v = 16 * (v % 68719476736) + d;
-            continue;
-        }
-        if k % 3 == 1 {
-            return Err(Fault::NoStep);
-        }
-        if is_blank(c) {
-            k = 3 * ((k + 1) / 3);
-        } else {
-            return Err(Fault::NoStep);
+            None => {
+                if steps % 3 == 1 {
+                    return None;
+                }
+                if !is_blank(*c) {
+                    return None;
+                }
+                steps = 3 * ((steps + 1) / 3);
+            }
         }
     }
-    if k == 14 {
-        return Ok(Step::Push(Number {
-            word: (v % 4294967296) as u32,
-            b1: (v / 4294967296) as u8,
-        }));
+    if steps != 14 {
+        return None;
     }
-    Err(Fault::NoStep)
+    Some(Number {
+        word: (value % 4294967296) as u32,
+        b1: (value / 4294967296) as u8,
+    })
 }

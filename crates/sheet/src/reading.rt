@@ -1,120 +1,95 @@
 // What a line says, by what stands before its comment.
-ghost use Rattle.std.specs.Prelude.{◌≡◌, ◌<◌, length};
+ghost use Rattle.std.specs.Prelude.{◌≡◌};
 ghost use Rattle.sheet.specs.Line.{short_pushed, pushed, numbered, named, bare, plain, said, line_of};
 
 use crate::decimal::decimal_in;
 use crate::meaning::{Fault, Step};
-use crate::numbers;
-use edition::Edition;
+use crate::numbers::number_of;
 use number::Number;
 use words::after;
 
-// A magnitude over 65,535 stands for none. Zero has no sign.
-fn short_pushed(sign: u8, v: u32) -> Result<Step, Fault>
-    ensures { result ≡ short_pushed sign v }
+// Zero has no sign.
+#[tactic(auto, unfolding(crate::specs::Line::short_pushed))]
+fn short_pushed(sign: u8, digits: &[u8]) -> Result<Step, Fault>
+    ensures { result ≡ short_pushed sign digits.now }
 {
-    if 65535 < v {
-        return Err(Fault::BadPush);
-    }
-    if v == 0 {
-        return Ok(Step::Push(Number {
-            word: number::short_word(0, v as u16),
-            b1: 0,
-        }));
-    }
+    let magnitude = decimal_in(65535, digits).ok_or(Fault::BadPush)? as u16;
+    let sign = if magnitude == 0 { 0 } else { sign };
     Ok(Step::Push(Number {
-        word: number::short_word(sign, v as u16),
+        word: number::short_word(sign, magnitude),
         b1: 0,
     }))
 }
 
+#[tactic(auto, using(crate::proofs::LineLaws::signed), unfolding(crate::specs::Line::pushed))]
 fn pushed(text: &[u8]) -> Result<Step, Fault>
-    requires { 0 < length text.now }
     ensures { result ≡ pushed text.now }
 {
-    if text[0] == b'-' {
-        return short_pushed(1, decimal_in(65535, &text[1..]));
+    match text.strip_prefix(b"-") {
+        Some(digits) => short_pushed(1, digits),
+        None => short_pushed(0, text),
     }
-    short_pushed(0, decimal_in(65535, text))
 }
 
+#[tactic(auto, unfolding(crate::specs::Line::numbered))]
 fn numbered(text: &[u8]) -> Result<Step, Fault>
     ensures { result ≡ numbered text.now }
 {
-    let v = decimal_in(255, text);
-    if 255 < v {
-        return Err(Fault::BadLiteral);
-    }
-    Ok(Step::Literal(v as u8))
+    let literal = decimal_in(255, text).ok_or(Fault::BadLiteral)?;
+    Ok(Step::Literal(literal as u8))
 }
 
+#[tactic(auto, unfolding(crate::specs::Line::named))]
 fn named(text: &[u8]) -> Result<Step, Fault>
     ensures { result ≡ named text.now }
 {
-    let n = naming::edition_of(text);
-    if n == 0 {
-        return Ok(Step::Named(Edition::Shipped));
-    }
-    if n == 1 {
-        return Ok(Step::Named(Edition::Mended));
-    }
-    Err(Fault::BadEdition)
+    let edition = naming::edition_of(text).ok_or(Fault::BadEdition)?;
+    Ok(Step::Named(edition))
 }
 
 // Digits and + , - . / alone.
+#[tactic(auto, unfolding(crate::specs::Line::bare))]
 fn is_bare(text: &[u8]) -> bool
     ensures { result ≡ bare text.now }
 {
-    let n = text.len();
-    let mut i = 0;
-    while i < n {
-        let c = text[i];
-        if c < b'+' {
-            return false;
-        }
-        if b'9' < c {
-            return false;
-        }
-        i += 1;
-    }
-    true
+    text.iter().all(|c| matches!(*c, b'+'..=b'9'))
 }
 
 // One word, or five bytes.
+#[tactic(auto, unfolding(crate::specs::Line::plain))]
 fn plain(text: &[u8]) -> Result<Step, Fault>
     ensures { result ≡ plain text.now }
 {
-    let literal = naming::literal_of(text);
-    if literal < 256 {
-        return Ok(Step::Literal(literal as u8));
+    if let Some(literal) = naming::literal_of(text) {
+        return Ok(Step::Literal(literal));
     }
     if is_bare(text) {
         return Err(Fault::BareNumber);
     }
-    numbers::number_of(text)
+    let number = number_of(text).ok_or(Fault::NoStep)?;
+    Ok(Step::Push(number))
 }
 
+#[tactic(auto, unfolding(crate::specs::Line::said))]
 fn said(text: &[u8]) -> Result<Step, Fault>
     ensures { result ≡ said text.now }
 {
-    if text.len() == 0 {
+    if text.is_empty() {
         return Ok(Step::Nothing);
     }
-    let to_push = after(text, b"push");
-    if 0 < to_push.len() {
+    if let Some(to_push) = after(text, b"push") {
         return pushed(to_push);
     }
-    let number = after(text, b"literal");
-    if 0 < number.len() {
-        return numbered(number);
+    if let Some(literal) = after(text, b"literal") {
+        return numbered(literal);
     }
-    let edition = after(text, b"edition");
-    if 0 < edition.len() {
+    if let Some(edition) = after(text, b"edition") {
         return named(edition);
     }
     plain(text)
 }
 
+#[tactic(auto, unfolding(crate::specs::Line::line_of))]
 pub fn line_of(told: &[u8]) -> Result<Step, Fault>
     ensures { result ≡ line_of told.now }
 {

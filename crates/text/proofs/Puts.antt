@@ -47,12 +47,14 @@ digits_enough : (k n : ℕ) → n < 10 ^ suc k → digits_of (suc k) n ≡ digit
 digits_enough zero n h = let small : n < 10 = omega arith in digits_one 1 n small ∙ sym (digits_one 0 n small)
 digits_enough (suc k) n h = go (ltb n 10) refl (digits_enough k (n / 10))
   where
-    go : (b : Bool) → ltb n 10 ≡ b → (n / 10 < 10 ^ suc k → digits_of (suc k) (n / 10) ≡ digits_of k (n / 10)) → digits_of (suc (suc k)) n ≡ digits_of (suc k) n
+    go : (b : Bool) → ltb n 10 ≡ b → (n / 10 < 10 ^ suc k → digits_of (suc k) (n / 10) ≡ digits_of k (n / 10))
+        → digits_of (suc (suc k)) n ≡ digits_of (suc k) n
     go true e ih = let small : n < 10 = ltb-true n 10 e in digits_one (suc (suc k)) n small ∙ sym (digits_one (suc k) n small)
     go false e ih =
         let large : 10 ≤ n = ltb-false n 10 e in
         let tenfold : 10 ^ suc (suc k) ≡ 10 ^ suc k * 10 = pow-suc 10 (suc k) in
-        digits_more (suc k) n large ∙ ap (λ (xs : List ℕ). xs ++ (digit_of (n % 10) ∷ [])) (ih (omega (arith, tenfold))) ∙ sym (digits_more k n large)
+        let fewer = ih (omega (arith, tenfold)) in
+        digits_more (suc k) n large ∙ ap (λ (xs : List ℕ). xs ++ (digit_of (n % 10) ∷ [])) fewer ∙ sym (digits_more k n large)
 
 pub decimal_one : (n : ℕ) → n < 10 → decimal_of n ≡ digit_of (n % 10) ∷ []
 decimal_one n h = digits_one 19 n h

@@ -1,9 +1,9 @@
 // Hexadecimal numbers.
-ghost use Rattle.std.specs.Prelude.{◌≡◌};
+ghost use Rattle.std.specs.Prelude.{◌≡◌, ◌<◌, ◌≤◌, SomeIff};
 ghost use Rattle.text.specs.Digits.{hex_of, each_of, hexes_of, value_of};
 ghost use Rattle.text.specs.Page.{Puts};
 
-use crate::digit::digit_of;
+use crate::digits::digit_of;
 use crate::page::Page;
 
 impl Page<'_> {
@@ -34,15 +34,12 @@ impl Page<'_> {
     }
 }
 
-// The value of a digit of either case; 16 where the byte is none.
+// The value of a digit of either case, below a radix of at most 16.
 #[tactic(auto, unfolding(crate::specs::Digits::value_of))]
-pub fn value_of(c: u8) -> u8
-    ensures { result ≡ value_of c }
+pub fn digit(c: u8, radix: u32) -> Option<u32>
+    requires two { 2 ≤ radix }
+    requires sixteen { radix ≤ 16 }
+    ensures { SomeIff result (value_of c < radix) (value_of c) }
 {
-    match c {
-        b'0'..=b'9' => c - b'0',
-        b'A'..=b'F' => c - b'A' + 10,
-        b'a'..=b'f' => c - b'a' + 10,
-        _ => 16,
-    }
+    (c as char).to_digit(radix)
 }

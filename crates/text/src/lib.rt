@@ -2,11 +2,9 @@
 #![tactic(auto)]
 
 mod decimal;
-mod digit;
+mod digits;
 mod hexadecimal;
 mod page;
-mod place;
 
-pub use hexadecimal::value_of;
-pub use page::Page;
-pub use place::{first, put, put_all, put_decimal, put_each, put_hexes};
+pub use hexadecimal::digit;
+pub use page::{Page, first};

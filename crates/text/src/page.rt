@@ -1,9 +1,7 @@
 // A page: bytes that a caller lends, and how many of them are written.
-ghost use Rattle.std.specs.Prelude.{◌≡◌, ◌∷◌, []};
+ghost use Rattle.std.specs.Prelude.{◌≡◌, ◌∷◌, [], take};
 ghost use Rattle.text.specs.Put.{before};
 ghost use Rattle.text.specs.Page.{written, Puts};
-
-use crate::place::first;
 
 // What finds no room is left out.
 #[derive(Drop)]
@@ -67,4 +65,11 @@ impl<'a> Page<'a> {
     {
         self.len = 0;
     }
+}
+
+// What was put before a place.
+pub fn first(out: &[u8], at: usize) -> &[u8]
+    ensures { result.now ≡ take at out.now }
+{
+    &out[..at.min(out.len())]
 }

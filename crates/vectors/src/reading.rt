@@ -13,23 +13,18 @@ pub(crate) fn number(digits: &[u8]) -> Option<usize> {
     }
     let mut value: usize = 0;
     for digit in digits {
-        let d = text::value_of(*digit);
-        if 9 < d {
-            return None;
-        }
-        value = value.checked_mul(10)?.checked_add(d as usize)?;
+        value = value
+            .checked_mul(10)?
+            .checked_add(text::digit(*digit, 10)? as usize)?;
     }
     Some(value)
 }
 
 // The byte of two hexadecimal digits.
 fn byte_of(high: u8, low: u8) -> Option<u8> {
-    let h = text::value_of(high);
-    let l = text::value_of(low);
-    if 15 < h || 15 < l {
-        return None;
-    }
-    Some(16 * h + l)
+    let high = text::digit(high, 16)?;
+    let low = text::digit(low, 16)?;
+    Some((16 * high + low) as u8)
 }
 
 // Pairs of hexadecimal digits, as the first bytes of a slice.

@@ -2,20 +2,9 @@
 ghost use Rattle.std.specs.Prelude.{◌≡◌};
 ghost use Rattle.words.specs.Begins.{begins};
 
+#[tactic(auto, using(crate::proofs::Laws::begun))]
 pub fn begins(text: &[u8], word: &[u8]) -> bool
     ensures { result ≡ begins word.now text.now }
 {
-    let n = word.len();
-    let all = text.len();
-    let mut i = 0;
-    while i < n {
-        if all <= i {
-            return false;
-        }
-        if text[i] != word[i] {
-            return false;
-        }
-        i += 1;
-    }
-    true
+    text.starts_with(word)
 }

@@ -1,45 +1,31 @@
 // The text of a line: what stands before its comment, without the blanks around it.
-ghost use Rattle.std.specs.Prelude.{◌≡◌, ◌≤◌, length, drop};
+ghost use Rattle.std.specs.Prelude.{◌≡◌, ◌≤◌, length, take};
 ghost use Rattle.words.specs.Blanks.{blank, unmarked, comment_from, told_of, started, end_of};
 ghost use Rattle.words.specs.Blanks.{trimmed};
 
-use crate::beginning::begins;
-
+#[tactic(auto, unfolding(crate::specs::Blanks::blank))]
 pub fn is_blank(c: u8) -> bool
     ensures { result ≡ blank c }
 {
-    if c == b' ' {
-        return true;
-    }
-    c == b'\t'
+    c == b' ' || c == b'\t'
 }
 
 // Without the byte-order mark that the first line may begin with.
+#[tactic(auto, unfolding(crate::specs::Blanks::unmarked))]
 fn unmarked(line: &[u8], number: u64) -> &[u8]
     ensures { result.now ≡ unmarked number line.now }
 {
     if number != 1 {
         return line;
     }
-    if begins(line, b"\xEF\xBB\xBF") {
-        return &line[3..];
-    }
-    line
+    line.strip_prefix(b"\xEF\xBB\xBF").unwrap_or(line)
 }
 
 // The place of the comment, or the line's end.
 fn comment(line: &[u8]) -> usize
     ensures { (result ≡ comment_from 0 line.now) × (result ≤ length line.now) }
 {
-    let n = line.len();
-    let mut i = 0;
-    while i < n {
-        if line[i] == b'#' {
-            return i;
-        }
-        i += 1;
-    }
-    i
+    line.iter().position(|c| *c == b'#').unwrap_or(line.len())
 }
 
 // What stands before the comment of the line with this number.
@@ -50,41 +36,39 @@ pub fn told(line: &[u8], number: u64) -> &[u8]
     &all[..comment(all)]
 }
 
-// The place after the last byte that is no blank.
-fn end(text: &[u8]) -> usize
-    ensures { (result ≡ end_of text.now (length text.now)) × (result ≤ length text.now) }
+// A text without the blanks after it.
+#[tactic(auto, using(crate::proofs::Laws::end_here, crate::proofs::Laws::end_later, crate::proofs::Laws::end_none))]
+fn ended(text: &[u8]) -> &[u8]
+    ensures { result.now ≡ take (end_of text.now (length text.now)) text.now }
 {
-    let mut n = text.len();
-    while 0 < n {
-        if is_blank(text[n - 1]) {
-            n -= 1;
-        } else {
-            return n;
+    let mut rest = text;
+    while let Some((last, before)) = rest.split_last() {
+        if !is_blank(*last) {
+            return rest;
         }
+        rest = before;
     }
-    n
+    rest
 }
 
-// A text from a place on, without the blanks there.
-pub(crate) fn started(text: &[u8], from: usize) -> &[u8]
-    requires { from ≤ length text.now }
-    ensures { result.now ≡ started (drop from text.now) }
+// A text without the blanks before it.
+#[tactic(auto, using(crate::proofs::Laws::start_here, crate::proofs::Laws::start_later, crate::proofs::Laws::start_none))]
+pub(crate) fn started(text: &[u8]) -> &[u8]
+    ensures { result.now ≡ started text.now }
 {
-    let n = text.len();
-    let mut i = from;
-    while i < n {
-        if is_blank(text[i]) {
-            i += 1;
-        } else {
-            return &text[i..];
+    let mut rest = text;
+    while let Some((first, after)) = rest.split_first() {
+        if !is_blank(*first) {
+            return rest;
         }
+        rest = after;
     }
-    &text[i..]
+    rest
 }
 
+// Not std's `trim_ascii`, which takes line feeds, form feeds and carriage returns for blanks too.
 pub fn trimmed(text: &[u8]) -> &[u8]
     ensures { result.now ≡ trimmed text.now }
 {
-    let e = end(text);
-    started(&text[..e], 0)
+    started(ended(text))
 }

@@ -1,21 +1,19 @@
 // What follows a word of a line.
 ghost use Rattle.std.specs.Prelude.{◌≡◌};
+ghost use Rattle.std.specs.Option.{option_copied};
 ghost use Rattle.words.specs.After.{after};
 
-use crate::beginning::begins;
 use crate::blanks;
 
-// What follows a word and a blank.
-pub fn after<'a>(text: &'a [u8], word: &[u8]) -> &'a [u8]
-    ensures { result.now ≡ after word.now text.now }
+// What follows a word and a blank, if anything does.
+pub fn after<'a>(text: &'a [u8], word: &[u8]) -> Option<&'a [u8]>
+    ensures { option_copied result ≡ after word.now text.now }
 {
-    let n = word.len();
-    if begins(text, word) {
-        if n < text.len() {
-            if blanks::is_blank(text[n]) {
-                return blanks::started(text, n);
-            }
-        }
+    let rest = text.strip_prefix(word)?;
+    let (first, _) = rest.split_first()?;
+    if !blanks::is_blank(*first) {
+        return None;
     }
-    &text[0..0]
+    let said = blanks::started(rest);
+    if said.is_empty() { None } else { Some(said) }
 }

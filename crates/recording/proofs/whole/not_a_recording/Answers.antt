@@ -1,42 +1,27 @@
--- `not_a_recording` meets its contract: the invariant of both loops is that what is left to test from here decides.
-use Rattle.std.proofs.Common.{arith, refl, sym, ◌∙◌}
-use native.Mathlib.Nat.{sub-zero}
-use Rattle.recording.specs.RecordingLaws.{found_stray, next_stray, none_stray, too_long, part_record, by_rest}
+-- `not_a_recording` meets its contract: eight records at a time, and then those that are left.
+use Rattle.std.proofs.Common.{rules, tests, ap, ◌∙◌}
+use Rattle.std.specs.List.{list_any}
+use Rattle.std.proofs.lemmas.Iterator.{YieldsList-from_slice}
+use Rattle.std.proofs.lemmas.Iterator.Search.{any_from_yields_List}
+use Rattle.recording.specs.Recording.{stray_one}
+use Rattle.recording.specs.RecordingLaws.{too_long, part_record}
+use Rattle.recording.proofs.ScanLaws.{found, not_found}
 use Rattle.recording.proofs.whole.not_a_recording.Goals as goal
 
-pub returns-then-len-gt64000 : goal.returns-then-len-gt64000
-returns-then-len-gt64000 c = too_long _ c.if-len-gt64000.true
+pub returns-then-recording-gt-MOST_BYTES : goal.returns-then-recording-gt-MOST_BYTES
+returns-then-recording-gt-MOST_BYTES c = too_long _ c.if-recording-gt-MOST_BYTES.true
 
-pub returns-then-len-ne0 : goal.returns-then-len-ne0
-returns-then-len-ne0 c = part_record _ c.if-len-gt64000.false c.if-len-ne0.true
+pub returns-then-not-is_empty : goal.returns-then-not-is_empty
+returns-then-not-is_empty c = part_record _ c.if-recording-gt-MOST_BYTES.false (search rules)
 
-pub loop-at-init : goal.loop-at-init
-loop-at-init c = (rw sub-zero (by_rest c.args.recording.now c.if-len-gt64000.false c.if-len-ne0.false), refl, omega arith)
+pub returns-then-any : goal.returns-then-any
+returns-then-any c =
+    let first = any_from_yields_List (list_any stray_one) _ _ c.any.result c.any.ensures.ran (YieldsList-from_slice _ c.iter.ensures.rest) (λ x b q k. search (rules, tests)) in
+    found _ c.if-recording-gt-MOST_BYTES.false (search rules) c.as_chunks.result.0.now _ c.as_chunks.ensures.front _ (first ∙ ap (list_any (list_any stray_one)) c.as_chunks-2.ensures.front) c.if-any.true
 
-pub returns-then-eight_stray : goal.returns-then-eight_stray
-returns-then-eight_stray c =
-    let l = c.loop-at in
-    found_stray _ l.at 8 (omega arith) (sym c.if-eight_stray.true ∙ c.eight_stray.ensures) ∙ l.invariant.0
-
-pub loop-at-preserved : goal.loop-at-preserved
-loop-at-preserved c =
-    let l = c.loop-at in
-    (sym (next_stray _ l.at 8 (omega arith) (sym c.if-eight_stray.false ∙ c.eight_stray.ensures)) ∙ l.invariant.0, omega arith, omega arith)
-
-pub loop-at-2-init : goal.loop-at-2-init
-loop-at-2-init c = c.loop-at.invariant
-
-pub returns-then-is_stray : goal.returns-then-is_stray
-returns-then-is_stray c =
-    let l = c.loop-at-2 in
-    found_stray _ l.at 1 (omega arith) (sym c.if-is_stray.true ∙ c.is_stray.ensures) ∙ l.invariant.0
-
-pub loop-at-2-preserved : goal.loop-at-2-preserved
-loop-at-2-preserved c =
-    let l = c.loop-at-2 in
-    (sym (next_stray _ l.at 1 (omega arith) (sym c.if-is_stray.false ∙ c.is_stray.ensures)) ∙ l.invariant.0, omega arith, omega arith)
-
-pub returns : goal.returns
-returns c =
-    let l = c.loop-at-2 in
-    none_stray c.args.recording.now l.at (omega arith) ∙ l.invariant.0
+pub returns-else-any : goal.returns-else-any
+returns-else-any c =
+    let first = any_from_yields_List (list_any stray_one) _ _ c.any.result c.any.ensures.ran (YieldsList-from_slice _ c.iter.ensures.rest) (λ x b q k. search (rules, tests)) in
+    let last = any_from_yields_List stray_one _ _ c.any-else-any.result c.any-else-any.ensures.ran (YieldsList-from_slice _ c.iter-else-any.ensures.rest) (λ x b q k. search (rules, tests)) in
+    not_found _ c.if-recording-gt-MOST_BYTES.false (search rules) c.as_chunks.result.0.now _ c.as_chunks.ensures.front _ (first ∙ ap (list_any (list_any stray_one)) c.as_chunks-2.ensures.front) c.if-any.false _
+    (last ∙ ap (list_any stray_one) c.as_chunks-2.ensures.back)

@@ -1,24 +1,27 @@
--- `decimal_in` meets its contract: the invariant is that the digits from here on give the whole.
-use Rattle.std.proofs.Common.{arith, eq-eqb, ne_eqb, sym, ◌∙◌}
-use Rattle.sheet.specs.Decimal.{decimal_in, decimal_done, decimal_none, decimal_next}
+-- `decimal_in` meets its contract: the digits from here on give the whole.
+use Rattle.std.proofs.Common.{rules, arith, refl, sym, ◌∙◌}
+use Rattle.sheet.proofs.DecimalLaws.{decimal_empty, decimal_any, decimal_none, decimal_over, decimal_next, decimal_done}
 use Rattle.sheet.proofs.decimal.decimal_in.Goals as goal
 
-pub returns-then-n-eq0 : goal.returns-then-n-eq0
-unfolding decimal_in
-returns-then-n-eq0 c = simp (eq-eqb _ _ c.if-n-eq0.true)
+pub returns-then-is_empty-clause-value : goal.returns-then-is_empty-clause-value
+returns-then-is_empty-clause-value c = sym (decimal_empty _ _ (search rules))
 
-pub loop-i-init : goal.loop-i-init
-unfolding decimal_in
-loop-i-init c = (simp (ne_eqb _ _ c.if-n-eq0.false), omega arith, omega arith)
+pub loop-c-init : goal.loop-c-init
+loop-c-init c = (decimal_any _ _ (search rules), omega arith)
 
-pub returns-then-d-gt9 : goal.returns-then-d-gt9
-unfolding decimal_in
-returns-then-d-gt9 c = sym (decimal_none _ _ _ _ c.loop-i-test.true c.value_of-d.ensures c.if-d-gt9.true) ∙ c.loop-i.invariant.0
+pub returns-in_err-value-clause-value : goal.returns-in_err-value-clause-value
+returns-in_err-value-clause-value c =
+    c.from_residual.ensures ∙ sym (decimal_none _ _ _ _ c.loop-c-test.true refl (omega (arith, c.in_err-value.ensures))) ∙ c.loop-c.invariant.0
 
-pub loop-i-preserved : goal.loop-i-preserved
-unfolding decimal_in
-loop-i-preserved c = (rw c.least-v.ensures (sym (decimal_next _ _ _ _ c.loop-i-test.true c.value_of-d.ensures c.if-d-gt9.false) ∙ c.loop-i.invariant.0), omega arith, omega (arith, c.least-v.ensures))
+pub returns-then-most-value-clause-value : goal.returns-then-most-value-clause-value
+returns-then-most-value-clause-value c =
+    let digit = c.in_ok-value.ensures in
+    sym (decimal_over _ _ _ _ c.loop-c-test.true digit.1 (omega (arith, digit)) c.if-most-value.true) ∙ c.loop-c.invariant.0
 
-pub returns : goal.returns
-unfolding decimal_in
-returns c = sym (decimal_done _ _ _ _ c.loop-i-test.false) ∙ c.loop-i.invariant.0
+pub loop-c-preserved : goal.loop-c-preserved
+loop-c-preserved c =
+    let digit = c.in_ok-value.ensures in
+    (sym (decimal_next _ _ _ _ c.loop-c-test.true digit.1 (omega (arith, digit)) c.if-most-value.false) ∙ c.loop-c.invariant.0, c.if-most-value.false)
+
+pub returns-clause-value : goal.returns-clause-value
+returns-clause-value c = sym (decimal_done _ _ _ _ c.loop-c-test.false) ∙ c.loop-c.invariant.0

@@ -1,10 +1,7 @@
--- `number_of` meets its contract: the invariant is that what follows k steps gives the whole.
-use Rattle.std.proofs.Common.{drop, length, ◌-◌, ◌<◌, ◌^◌, ◌≡◌, ◌≤◌}
+-- `number_of` meets its contract: what follows so many steps gives the whole.
+use Rattle.std.proofs.Common.{drop, ◌<◌, ◌^◌, ◌≡◌, ◌≤◌}
 use Rattle.sheet.specs.Numbers.{number_from}
 use Rattle.sheet.proofs.numbers.number_of.Given as goal
 
-abbrev pub invariant-loop-i : goal.invariant-loop-i
-invariant-loop-i l = (number_from l.k l.v (drop l.i l.text) ≡ number_from 0 0 l.text) × (l.i ≤ length l.text) × (l.k ≤ l.i) × (l.v < 2 ^ 40)
-
-abbrev pub decreases-loop-i : goal.decreases-loop-i
-decreases-loop-i l = length l.text - l.i
+abbrev pub invariant-loop-c : goal.invariant-loop-c
+invariant-loop-c l = (number_from l.steps l.value (drop l.c-index l.text) ≡ number_from 0 0 l.text) × (l.steps ≤ l.c-index) × (l.value < 2 ^ 40)

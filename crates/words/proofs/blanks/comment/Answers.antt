@@ -1,16 +1,11 @@
--- `comment` meets its contract: the invariant is that looking from here on finds what looking from the beginning does.
-use Rattle.std.proofs.Common.{arith, refl, sym, ◌∙◌}
-use Rattle.words.specs.Blanks.{comment_none, comment_here, comment_later}
+-- `comment` meets its contract: the first `#`, or the end.
+use Rattle.std.proofs.Common.{rules, tests}
+use Rattle.std.proofs.lemmas.Iterator.{YieldsList-from_slice}
+use Rattle.std.proofs.lemmas.Iterator.Search.{position_from_yields_List}
+use Rattle.words.proofs.Laws.{comment_found}
 use Rattle.words.proofs.blanks.comment.Goals as goal
 
-pub loop-i-init : goal.loop-i-init
-loop-i-init c = (refl, omega arith)
-
-pub returns-then-line-i-eq35 : goal.returns-then-line-i-eq35
-returns-then-line-i-eq35 c = (sym (comment_here _ _ c.loop-i-test.true c.if-line-i-eq35.true) ∙ c.loop-i.invariant.0, omega arith)
-
-pub loop-i-preserved : goal.loop-i-preserved
-loop-i-preserved c = (sym (comment_later _ _ c.loop-i-test.true c.if-line-i-eq35.false) ∙ c.loop-i.invariant.0, omega arith)
-
 pub returns : goal.returns
-returns c = (sym (comment_none _ _ c.loop-i-test.false) ∙ c.loop-i.invariant.0, omega arith)
+returns c =
+    let s = c.args.line.now in
+    rw c.unwrap_or.ensures (comment_found s c.position.result (position_from_yields_List _ _ _ c.position.result c.position.ensures.ran (YieldsList-from_slice s cc) (λ x b q k. search (rules, tests))))

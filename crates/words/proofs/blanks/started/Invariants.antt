@@ -1,10 +1,10 @@
--- `started` meets its contract: the invariant is that what starts from here is what starts from the place given.
-use Rattle.std.proofs.Common.{drop, length, ◌-◌, ◌≡◌, ◌≤◌}
+-- `started` meets its contract: what is left starts where the whole does.
+use Rattle.std.proofs.Common.{length, ◌≡◌}
 use Rattle.words.specs.Blanks.{started}
 use Rattle.words.proofs.blanks.started.Given as goal
 
-abbrev pub invariant-loop-i : goal.invariant-loop-i
-invariant-loop-i l = (started (drop l.i l.text) ≡ started (drop l.from l.text)) × (l.i ≤ length l.text)
+abbrev pub invariant-loop-first : goal.invariant-loop-first
+invariant-loop-first l = started l.rest ≡ started l.text
 
-abbrev pub decreases-loop-i : goal.decreases-loop-i
-decreases-loop-i l = length l.text - l.i
+abbrev pub decreases-loop-first : goal.decreases-loop-first
+decreases-loop-first l = length l.rest

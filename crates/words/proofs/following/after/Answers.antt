@@ -1,17 +1,27 @@
--- `after` meets its contract: the tests are the definition's, and each of the three that fails leaves nothing.
-use Rattle.std.proofs.Common.{sym, ◌∙◌}
-use Rattle.words.specs.After.{after_word, after_joined, after_alone, after_other}
+-- `after` meets its contract: a law of the definition a way out.
+use Rattle.std.proofs.Common.{rules}
+use Rattle.words.proofs.Laws.{after_other, after_alone, after_joined, after_blanks, after_word}
 use Rattle.words.proofs.following.after.Goals as goal
-use Rattle.words.proofs.following.after.Goals.{then-begins+then-n-text+else-is_blank, then-begins+else-n-text, else-begins}
 
-pub returns-then-is_blank : goal.returns-then-is_blank
-returns-then-is_blank c = c.started.ensures ∙ sym (after_word _ _ (sym c.begins.ensures ∙ c.if-begins.true) (sym c.is_blank.ensures ∙ c.if-is_blank.true))
+pub returns-in_err-rest : goal.returns-in_err-rest
+returns-in_err-rest c = rw c.from_residual.ensures (after_other _ _ c.in_err-rest.ensures.cases)
 
-pub returns : goal.returns
-returns c =
-    let e = sym c.begins.ensures in
-    elim c.if-begins.branch [
-      | then-begins+then-n-text+else-is_blank w ↦ sym (after_joined _ _ (e ∙ w.if-begins.true) (sym w.is_blank.ensures ∙ w.if-is_blank.false))
-      | then-begins+else-n-text w ↦ sym (after_alone _ _ (e ∙ w.if-begins.true) w.if-n-text.false)
-      | else-begins w ↦ sym (after_other _ _ (e ∙ w.if-begins.false))
-    ]
+pub returns-in_err-first : goal.returns-in_err-first
+returns-in_err-first c =
+    let r = c.in_ok-rest.ensures.cases in
+    rw c.from_residual-in_err-first.ensures (after_alone _ _ _ r.0 r.1 c.in_err-first.ensures.cases)
+
+pub returns-then-not-is_blank : goal.returns-then-not-is_blank
+returns-then-not-is_blank c =
+    let r = c.in_ok-rest.ensures.cases in
+    after_joined _ _ _ r.0 r.1 _ _ c.in_ok-first.ensures.cases.0 (search rules)
+
+pub returns-then-is_empty : goal.returns-then-is_empty
+returns-then-is_empty c =
+    let r = c.in_ok-rest.ensures.cases in
+    after_blanks _ _ _ r.0 r.1 _ _ c.in_ok-first.ensures.cases.0 (search rules) _ c.started-said.ensures (search rules)
+
+pub returns-else-is_empty : goal.returns-else-is_empty
+returns-else-is_empty c =
+    let r = c.in_ok-rest.ensures.cases in
+    after_word _ _ _ r.0 r.1 _ _ c.in_ok-first.ensures.cases.0 (search rules) _ c.started-said.ensures (search rules)
