@@ -1,4 +1,4 @@
-// A digit below 16, in upper case.
+// A digit below 16, in upper case: `char::from_digit` gives lower case.
 ghost use Rattle.std.specs.Prelude.{◌≡◌, ◌<◌};
 ghost use Rattle.text.specs.Digits.{digit_of};
 

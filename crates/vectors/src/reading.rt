@@ -13,7 +13,9 @@ pub(crate) fn number(digits: &[u8]) -> Option<usize> {
     }
     let mut value: usize = 0;
     for digit in digits {
-        value = value.checked_mul(10)?.checked_add(text::digit(*digit, 10)? as usize)?;
+        value = value
+            .checked_mul(10)?
+            .checked_add(text::digit(*digit, 10)? as usize)?;
     }
     Some(value)
 }
