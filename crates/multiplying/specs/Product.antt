@@ -1,7 +1,8 @@
 -- Literal 4's row of the table, and what is known of its two numbers once they are there. No public contract cites this file.
-use Rattle.std.specs.Prelude.{ℕ, ◌+◌, ◌*◌, ◌^◌, ◌/◌, ◌%◌, ◌<◌, ◌≡◌, refl, Bool, true, false, ◌||◌, List, Option, Some, None, MatchOption}
+use Rattle.std.specs.Prelude.{ℕ, ◌+◌, ◌*◌, ◌^◌, ◌/◌, ◌%◌, ◌<◌, ◌≡◌, refl, Bool, true, false, ◌||◌, List, Option, Some, None, MatchOption, IfSome}
 use Rattle.std.proofs.Common.{sym, ◌∙◌, ap, ap₂, arith, eq-eqb}
 use Rattle.std.proofs.Math.Bool.{or_comm}
+use Rattle.std.specs.Option.{option_map}
 use Rattle.std.specs.Int.Bits.{bit_xor}
 use Rattle.edition.specs.declared.Edition.TheVariants.{Shipped}
 use Rattle.number.specs.declared.Number.{Number}
@@ -9,7 +10,7 @@ use Rattle.number.specs.Number.{number, sign, malformed, mantissa}
 use Rattle.number.specs.NumberLaws.{Bytes}
 use Rattle.number.specs.FormLaws.{malformed_full}
 use Rattle.number.specs.declared.operand.Magnitude.{Magnitude}
-use Rattle.number.specs.Operand.{Measured}
+use Rattle.number.specs.Operand.{Measured, Measures}
 use Rattle.slots.specs.Reach.{lacking, number_at}
 use Rattle.multiplication.specs.Multiplication.{both_short, product_of}
 use Rattle.division.proofs.DivisionLaws.{signs_differ}
@@ -68,9 +69,14 @@ module _ (x y : Number) (bx : Bytes x) (by : Bytes y) (f : x.b1 ≡ 0 → ⊥) w
     ap (λ (s : ℕ). product_at s (mantissa x * mantissa y) (x.b1 + y.b1)) (signs_differ x.word y.word (omega arith) (omega arith)) ∙ sym (full_by_full x y bx by f g),
   )
 
-  pub factored_short : y.b1 ≡ 0 → (m : Magnitude) → m.mask < 2 ^ 32 → Measured y m → Factored x y (Some (factors_of (bit_xor x.word m.mask) x.word m.v (x.b1 + 160)))
-  factored_short g m l h = (
+  pub factored_measured : y.b1 ≡ 0 → (m : Magnitude) → m.mask < 2 ^ 32 → Measured y m → Factored x y (Some (factors_of (bit_xor x.word m.mask) x.word m.v (x.b1 + 160)))
+  factored_measured g m l h = (
     simp (malformed_full x f, h.form),
     ap₂ (λ (s v : ℕ). product_at s (mantissa x * v) (x.b1 + 160)) (signs_differ x.word m.mask (omega arith) l ∙ ap (λ (s : ℕ). (sign x + s) % 2) h.signs) h.away
         ∙ sym (full_by_short x y bx by f g),
   )
+
+  pub factored_short : y.b1 ≡ 0 → (o : Option Magnitude) → IfSome o (λ m. m.mask < 2 ^ 32) → Measures y o
+      → Factored x y (option_map (λ m. factors_of (bit_xor x.word m.mask) x.word m.v (x.b1 + 160)) o)
+  factored_short g None l h = simp (malformed_full x f, h)
+  factored_short g (Some m) l h = factored_measured g m l h

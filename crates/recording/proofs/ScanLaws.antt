@@ -16,8 +16,8 @@ module _ (x : List ℕ) (long : length x ≡ 16) where
   abbrev b : ℕ → ℕ
   b k = get_or x k 0
 
-  rest_is : rest_in x ≡ b 9 ∷ b 10 ∷ b 11 ∷ b 12 ∷ b 13 ∷ b 14 ∷ b 15 ∷ []
-  rest_is =
+  pub rest_of_bytes : rest_in x ≡ b 9 ∷ b 10 ∷ b 11 ∷ b 12 ∷ b 13 ∷ b 14 ∷ b 15 ∷ []
+  rest_of_bytes =
       rw (
         drop-cons x 9 0 (omega (arith, long)),
         drop-cons x 10 0 (omega (arith, long)),
@@ -29,24 +29,24 @@ module _ (x : List ℕ) (long : length x ≡ 16) where
       ) refl
 
   -- with byte 8 below them bytes 9 to 15 make a number, which is a byte exactly where they are zero
-  stray_by : b 8 < 256 → (j : ℕ)
+  pub stray_one_by : b 8 < 256 → (j : ℕ)
       → j ≡ b 8 + 256 * b 9 + 65536 * b 10 + 16777216 * b 11 + 4294967296 * b 12 + 1099511627776 * b 13 + 281474976710656 * b 14 + 72057594037927936 * b 15
       → ltb 255 j ≡ stray_one x
-  stray_by l j e = go (ltb 255 j) refl
+  stray_one_by l j e = go (ltb 255 j) refl
     where
       go : (t : Bool) → ltb 255 j ≡ t → t ≡ stray_one x
       go true g =
           ap not
           (same_by false (λ z. absurd (false≢true z))
           (λ z.
-          let all = sym rest_is ∙ z in
+          let all = sym rest_of_bytes ∙ z in
           let zero : (k : ℕ) → get_or (b 9 ∷ b 10 ∷ b 11 ∷ b 12 ∷ b 13 ∷ b 14 ∷ b 15 ∷ []) k 0 ≡ get_or (zeros 7) k 0 = λ k. ap (λ (x : List ℕ). get_or x k 0) all in
           absurd (omega (arith, ltb-true 255 j g, zero 0, zero 1, zero 2, zero 3, zero 4, zero 5, zero 6))))
       go false g =
           let small = ltb-false 255 j g in
           let z : (b 9 ≡ 0) × (b 10 ≡ 0) × (b 11 ≡ 0) × (b 12 ≡ 0) × (b 13 ≡ 0) × (b 14 ≡ 0) × (b 15 ≡ 0) =
           (omega arith, omega arith, omega arith, omega arith, omega arith, omega arith, omega arith) in
-          ap not (same_by true (λ t. rest_is ∙ rw (z.0, z.1, z.2, z.3, z.4, z.5, z.6) refl) (λ t. refl))
+          ap not (same_by true (λ t. rest_of_bytes ∙ rw (z.0, z.1, z.2, z.3, z.4, z.5, z.6) refl) (λ t. refl))
 
   -- as its last eight bytes
   module _ (last : List ℕ) (d : last ≡ drop 8 x) where
@@ -57,7 +57,7 @@ module _ (x : List ℕ) (long : length x ≡ 16) where
         → j ≡ get_or last 0 0 + 256 * get_or last 1 0 + 65536 * get_or last 2 0 + 16777216 * get_or last 3 0 + 4294967296 * get_or last 4 0 + 1099511627776 * get_or last 5 0
         + 281474976710656 * get_or last 6 0 + 72057594037927936 * get_or last 7 0
         → ltb 255 j ≡ stray_one x
-    stray_last l j e = stray_by l j (omega (arith, e, at 0, at 1, at 2, at 3, at 4, at 5, at 6, at 7))
+    stray_last l j e = stray_one_by l j (omega (arith, e, at 0, at 1, at 2, at 3, at 4, at 5, at 6, at 7))
 
 -- one record after another
 any_stray : (n : ℕ) (r : List ℕ) → list_any stray_one (first_chunks 16 n r) ≡ stray n r

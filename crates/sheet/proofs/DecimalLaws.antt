@@ -28,6 +28,6 @@ module _ (most : ℕ) (s : List ℕ) where
       unfolding decimal_from
       decimal_over g k = rw (drop-cons s i 0 h, ← e) (simp (le-ltb _ _ g, lt-ltb _ _ k))
 
-      pub decimal_next : d ≤ 9 → 10 * v + d ≤ most → decimal_from most v (drop i s) ≡ decimal_from most (10 * v + d) (drop (i + 1) s)
+      pub decimal_within : d ≤ 9 → 10 * v + d ≤ most → decimal_from most v (drop i s) ≡ decimal_from most (10 * v + d) (drop (i + 1) s)
       unfolding decimal_from
-      decimal_next g k = rw (drop-cons s i 0 h, ← e, add-one i) (simp (le-ltb _ _ g, le-ltb _ _ k))
+      decimal_within g k = rw (drop-cons s i 0 h, ← e, add-one i) (simp (le-ltb _ _ g, le-ltb _ _ k))

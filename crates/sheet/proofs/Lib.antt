@@ -1,3 +1,4 @@
 pub mod DecimalLaws
 pub mod NumbersLaws
 pub mod LineLaws
+pub mod StepLaws

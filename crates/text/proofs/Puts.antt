@@ -33,33 +33,33 @@ each_take t before bs i h =
       puts_append (puts_of t (each_of before (take i bs))) before (hex_of (get_or bs i 0)),
     )
 
-digits_one : (k n : ℕ) → n < 10 → digits_of k n ≡ digit_of (n % 10) ∷ []
+digits_below_ten : (k n : ℕ) → n < 10 → digits_of k n ≡ digit_of (n % 10) ∷ []
 unfolding digits_of
-digits_one zero n h = refl
-digits_one (suc k) n h = let e : n % 10 ≡ n = omega arith in rw e (simp (lt-ltb _ _ h))
+digits_below_ten zero n h = refl
+digits_below_ten (suc k) n h = let e : n % 10 ≡ n = omega arith in rw e (simp (lt-ltb _ _ h))
 
-digits_more : (k n : ℕ) → 10 ≤ n → digits_of (suc k) n ≡ digits_of k (n / 10) ++ (digit_of (n % 10) ∷ [])
+digits_from_ten : (k n : ℕ) → 10 ≤ n → digits_of (suc k) n ≡ digits_of k (n / 10) ++ (digit_of (n % 10) ∷ [])
 unfolding digits_of
-digits_more k n h = simp (le-ltb _ _ h)
+digits_from_ten k n h = simp (le-ltb _ _ h)
 
 -- a number below 10^(k + 1) needs no more than k + 1 digits
 digits_enough : (k n : ℕ) → n < 10 ^ suc k → digits_of (suc k) n ≡ digits_of k n
-digits_enough zero n h = let small : n < 10 = omega arith in digits_one 1 n small ∙ sym (digits_one 0 n small)
+digits_enough zero n h = let small : n < 10 = omega arith in digits_below_ten 1 n small ∙ sym (digits_below_ten 0 n small)
 digits_enough (suc k) n h = go (ltb n 10) refl (digits_enough k (n / 10))
   where
     go : (b : Bool) → ltb n 10 ≡ b → (n / 10 < 10 ^ suc k → digits_of (suc k) (n / 10) ≡ digits_of k (n / 10))
         → digits_of (suc (suc k)) n ≡ digits_of (suc k) n
-    go true e ih = let small : n < 10 = ltb-true n 10 e in digits_one (suc (suc k)) n small ∙ sym (digits_one (suc k) n small)
+    go true e ih = let small : n < 10 = ltb-true n 10 e in digits_below_ten (suc (suc k)) n small ∙ sym (digits_below_ten (suc k) n small)
     go false e ih =
         let large : 10 ≤ n = ltb-false n 10 e in
         let tenfold : 10 ^ suc (suc k) ≡ 10 ^ suc k * 10 = pow-suc 10 (suc k) in
         let fewer = ih (omega (arith, tenfold)) in
-        digits_more (suc k) n large ∙ ap (λ (xs : List ℕ). xs ++ (digit_of (n % 10) ∷ [])) fewer ∙ sym (digits_more k n large)
+        digits_from_ten (suc k) n large ∙ ap (λ (xs : List ℕ). xs ++ (digit_of (n % 10) ∷ [])) fewer ∙ sym (digits_from_ten k n large)
 
 pub decimal_one : (n : ℕ) → n < 10 → decimal_of n ≡ digit_of (n % 10) ∷ []
-decimal_one n h = digits_one 19 n h
+decimal_one n h = digits_below_ten 19 n h
 
 pub decimal_more : (n : ℕ) → 10 ≤ n → n < 10 ^ 20 → decimal_of n ≡ decimal_of (n / 10) ++ (digit_of (n % 10) ∷ [])
 decimal_more n g h =
     let rest : n / 10 < 10 ^ 19 = omega arith in
-    digits_more 18 n g ∙ ap (λ (xs : List ℕ). xs ++ (digit_of (n % 10) ∷ [])) (sym (digits_enough 18 (n / 10) rest))
+    digits_from_ten 18 n g ∙ ap (λ (xs : List ℕ). xs ++ (digit_of (n % 10) ∷ [])) (sym (digits_enough 18 (n / 10) rest))

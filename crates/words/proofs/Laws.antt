@@ -79,13 +79,13 @@ comment_found s r e = rw e (go (ltb (position_or_len marks s) (length s)) refl)
     go false h = (omega (arith, comment_is 0 s, place_bound s, ltb-false _ _ h), omega arith)
 
 -- a text of which the first byte, or the last, is looked at
-pub start_here : (c : ℕ) (s rest : List ℕ) → s ≡ c ∷ rest → blank c ≡ false → started s ≡ s
+pub started_kept : (c : ℕ) (s rest : List ℕ) → s ≡ c ∷ rest → blank c ≡ false → started s ≡ s
 unfolding started
-start_here c s rest e b = rw e (simp b)
+started_kept c s rest e b = rw e (simp b)
 
-pub start_later : (c : ℕ) (s rest : List ℕ) → s ≡ c ∷ rest → blank c ≡ true → started s ≡ started rest
+pub started_blank : (c : ℕ) (s rest : List ℕ) → s ≡ c ∷ rest → blank c ≡ true → started s ≡ started rest
 unfolding started
-start_later c s rest e b = rw e (simp b)
+started_blank c s rest e b = rw e (simp b)
 
 end_bound : (s : List ℕ) (n : ℕ) → end_of s n ≤ n
 unfolding end_of
@@ -96,10 +96,10 @@ end_bound s (suc n) = go (blank (get_or s n 0)) (end_bound s n)
     go true h = omega (arith, h)
     go false h = omega arith
 
-end_before : (s t : List ℕ) (n : ℕ) → n ≤ length s → end_of (s ++ t) n ≡ end_of s n
+end_of_joined : (s t : List ℕ) (n : ℕ) → n ≤ length s → end_of (s ++ t) n ≡ end_of s n
 unfolding end_of
-end_before s t zero h = refl
-end_before s t (suc n) h = rw (get_or_append_left s t 0 n (omega arith), end_before s t n (omega arith)) refl
+end_of_joined s t zero h = refl
+end_of_joined s t (suc n) h = rw (get_or_append_left s t 0 n (omega arith), end_of_joined s t n (omega arith)) refl
 
 -- without the blanks after it
 abbrev pub ended : List ℕ → List ℕ
@@ -115,24 +115,24 @@ module _ (c : ℕ) (rest : List ℕ) where
   last : get_or all (length rest) 0 ≡ c
   last = get_or-append_seam rest c [] 0
 
-  pub end_here : (s : List ℕ) → s ≡ all → blank c ≡ false → ended s ≡ s
+  pub ended_kept : (s : List ℕ) → s ≡ all → blank c ≡ false → ended s ≡ s
   unfolding end_of
-  end_here s e b = rw (e, long) (simp (last, b) (take_all (suc (length rest)) all (omega (arith, long))))
+  ended_kept s e b = rw (e, long) (simp (last, b) (take_all (suc (length rest)) all (omega (arith, long))))
 
-  pub end_later : (s : List ℕ) → s ≡ all → blank c ≡ true → ended s ≡ ended rest
+  pub ended_blank : (s : List ℕ) → s ≡ all → blank c ≡ true → ended s ≡ ended rest
   unfolding end_of
-  end_later s e b =
-      rw (e, long) (simp (last, b, end_before rest (c ∷ []) (length rest) (omega arith)) (take-append-le _ rest (c ∷ []) (end_bound rest (length rest))))
+  ended_blank s e b =
+      rw (e, long) (simp (last, b, end_of_joined rest (c ∷ []) (length rest) (omega arith)) (take-append-le _ rest (c ∷ []) (end_bound rest (length rest))))
 
-pub end_none : (s : List ℕ) → length s ≡ 0 → ended s ≡ s
+pub ended_empty : (s : List ℕ) → length s ≡ 0 → ended s ≡ s
 unfolding end_of
-end_none [] h = refl
-end_none (c ∷ cs) h = absurd (omega (arith, h))
+ended_empty [] h = refl
+ended_empty (c ∷ cs) h = absurd (omega (arith, h))
 
-pub start_none : (s : List ℕ) → length s ≡ 0 → started s ≡ s
+pub started_empty : (s : List ℕ) → length s ≡ 0 → started s ≡ s
 unfolding started
-start_none [] h = refl
-start_none (c ∷ cs) h = absurd (omega (arith, h))
+started_empty [] h = refl
+started_empty (c ∷ cs) h = absurd (omega (arith, h))
 
 -- what is left behind a word
 pub unmarked_by : (ws s : List ℕ) (line : Bor (List ℕ)) (r : Option (Bor (List ℕ))) → line.now ≡ s
@@ -143,9 +143,9 @@ unmarked_by ws s line None e h = simp (sym (stripped ws s) ∙ h) e
 unmarked_by ws s line (Some x) e h = simp (sym (stripped ws s) ∙ h.0) h.1
 
 module _ (ws s : List ℕ) where
-  pub after_other : pointwise eqb (take (length ws) s) ws ≡ false → None ≡ after ws s
+  pub none_after_other : pointwise eqb (take (length ws) s) ws ≡ false → None ≡ after ws s
   unfolding after
-  after_other h = simp (sym (stripped ws s) ∙ h)
+  none_after_other h = simp (sym (stripped ws s) ∙ h)
 
   module _ (rest : List ℕ) (h : pointwise eqb (take (length ws) s) ws ≡ true) (d : rest ≡ drop (length ws) s) where
     after_is : after ws s ≡ cond (blank (get_or rest 0 0)) (any_of (started rest)) None
@@ -155,9 +155,9 @@ module _ (ws s : List ℕ) where
         let g : get_or rest 0 0 ≡ get_or s (length ws) 0 = rw d (get_or-drop (length ws) s 0 0 ∙ ap (λ (n : ℕ). get_or s n 0) z) in
         simp (sym (stripped ws s) ∙ h, ← d, ← g)
 
-    pub after_alone : length rest ≡ 0 → None ≡ after ws s
+    pub none_after_alone : length rest ≡ 0 → None ≡ after ws s
     unfolding blank
-    after_alone n = sym (after_is ∙ go rest n)
+    none_after_alone n = sym (after_is ∙ go rest n)
       where
         go : (xs : List ℕ) → length xs ≡ 0 → cond (blank (get_or xs 0 0)) (any_of (started xs)) None ≡ None
         go [] e = refl
@@ -167,21 +167,21 @@ module _ (ws s : List ℕ) where
       first_is : get_or rest 0 0 ≡ c
       first_is = rw e refl
 
-      pub after_joined : blank c ≡ false → None ≡ after ws s
-      after_joined b = sym (after_is ∙ simp (first_is, b))
+      pub none_after_joined : blank c ≡ false → None ≡ after ws s
+      none_after_joined b = sym (after_is ∙ simp (first_is, b))
 
       module _ (b : blank c ≡ true) (said : List ℕ) (q : said ≡ started rest) where
-        pub after_blanks : length said ≡ 0 → None ≡ after ws s
+        pub none_after_blanks : length said ≡ 0 → None ≡ after ws s
         unfolding any_of
-        after_blanks n = sym (after_is ∙ simp (first_is, b, ← q) (go said n))
+        none_after_blanks n = sym (after_is ∙ simp (first_is, b, ← q) (go said n))
           where
             go : (xs : List ℕ) → length xs ≡ 0 → any_of xs ≡ None
             go [] k = refl
             go (x ∷ xs) k = absurd (omega (arith, k))
 
-        pub after_word : (length said ≡ 0 → ⊥) → Some said ≡ after ws s
+        pub some_after : (length said ≡ 0 → ⊥) → Some said ≡ after ws s
         unfolding any_of
-        after_word n = sym (after_is ∙ simp (first_is, b, ← q) (go said n))
+        some_after n = sym (after_is ∙ simp (first_is, b, ← q) (go said n))
           where
             go : (xs : List ℕ) → (length xs ≡ 0 → ⊥) → any_of xs ≡ Some xs
             go [] k = absurd (k refl)

@@ -37,7 +37,7 @@ pub fn told(line: &[u8], number: u64) -> &[u8]
 }
 
 // A text without the blanks after it.
-#[tactic(auto, using(crate::proofs::Laws::end_here, crate::proofs::Laws::end_later, crate::proofs::Laws::end_none))]
+#[tactic(auto, using(crate::proofs::Laws::ended_kept, crate::proofs::Laws::ended_blank, crate::proofs::Laws::ended_empty))]
 fn ended(text: &[u8]) -> &[u8]
     ensures { result.now ≡ take (end_of text.now (length text.now)) text.now }
 {
@@ -52,7 +52,7 @@ fn ended(text: &[u8]) -> &[u8]
 }
 
 // A text without the blanks before it.
-#[tactic(auto, using(crate::proofs::Laws::start_here, crate::proofs::Laws::start_later, crate::proofs::Laws::start_none))]
+#[tactic(auto, using(crate::proofs::Laws::started_kept, crate::proofs::Laws::started_blank, crate::proofs::Laws::started_empty))]
 pub(crate) fn started(text: &[u8]) -> &[u8]
     ensures { result.now ≡ started text.now }
 {

@@ -5,7 +5,7 @@ use Rattle.number.specs.declared.Number.{Number}
 use Rattle.number.specs.Number.{number, malformed}
 use Rattle.number.specs.Operand.{Measures}
 use Rattle.slots.specs.Reach.{number_at}
-use Rattle.multiplying.specs.Product.{Factored, factored_short}
+use Rattle.multiplying.specs.Product.{Factored, factored_measured}
 use Rattle.multiplying.proofs.product.short_by_full.Goals as goal
 use Rattle.multiplying.proofs.product.short_by_full.Goals.{After-magnitude_of}
 
@@ -27,5 +27,5 @@ returns-in_err-short c =
 pub returns : goal.returns
 returns c =
     let m = (goal.at.returns c).After-magnitude_of in
-    factored_short (number c.args.b1 c.args.word) (y m) (omega arith) (omega arith) c.requires.0 c.requires.1 c.in_ok-short.short (omega arith)
+    factored_measured (number c.args.b1 c.args.word) (y m) (omega arith) (omega arith) c.requires.0 c.requires.1 c.in_ok-short.short (omega arith)
     (subst (Measures (y m)) c.in_ok-short.was (measures m))
