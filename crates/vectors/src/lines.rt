@@ -22,7 +22,8 @@ impl<'a, W: Write, E: Write> Answering<'a, W, E> {
         })
     }
 
-    // A whole line. A stack of 17,000 bytes and the rest of its answer fit the page. Not inlined: so large a frame is then made for a line, and not for each byte.
+    // A whole line. A stack of 17,000 bytes and the rest of its answer fit the page.
+    // Not inlined: so large a frame is then made for a line, and not for each byte.
     #[inline(never)]
     fn answer(&mut self) -> io::Result<()> {
         let line = self.line.as_bytes();
@@ -61,8 +62,8 @@ impl<'a, W: Write, E: Write> Answering<'a, W, E> {
     }
 }
 
-// Each line is answered, up to the end of the input; an `Err` where that can't be done, which standard error has. A last line needs no line feed, and an empty one
-// has no answer. A proved loop has to end, and nothing says that the input does: it counts up to a number that no run reaches.
+// Each line is answered, up to the end of the input; an `Err` where that can't be done, and standard error has said so. A last line needs no line feed, and
+// an empty one has no answer. A proved loop has to end, and nothing says that the input does: it counts up to a number that no run reaches.
 pub(crate) fn answer<R: Read + Drop, W: Write + Drop, E: Write + Drop>(
     mut input: R,
     out: W,
