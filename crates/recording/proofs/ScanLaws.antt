@@ -8,7 +8,7 @@ use Rattle.std.proofs.Common.{◌∙◌, arith, drop-cons, drop-drop, take-appen
 use Rattle.std.proofs.lemmas.Bool.{false≢true}
 use Rattle.std.proofs.lemmas.List.Folds.{list_any-append}
 use borrow.Author.Tests.{ltb-true, ltb-false}
-use Rattle.recording.specs.Recording.{rest_in, records, zeros, stray_one, stray, not_a_recording}
+use Rattle.recording.specs.Recording.{rest_in, later, records, zeros, stray_one, stray, not_a_recording}
 use Rattle.recording.specs.RecordingLaws.{same_by, by_rest}
 
 -- a record of sixteen bytes
@@ -64,6 +64,14 @@ any_stray : (n : ℕ) (r : List ℕ) → list_any stray_one (first_chunks 16 n r
 unfolding stray
 any_stray zero r = refl
 any_stray (suc n) r = ap (λ (b : Bool). stray_one (take 16 r) || b) (any_stray n (drop 16 r))
+
+pub stray_split : (m n : ℕ) (r : List ℕ) → stray (m + n) r ≡ stray m r || stray n (drop (16 * m) r)
+unfolding stray
+stray_split zero n r = let e : 0 + n ≡ n = omega arith in rw e refl
+stray_split (suc m) n r =
+    let e : suc m + n ≡ suc (m + n) = omega arith in
+    let f : 16 + 16 * m ≡ 16 * suc m = omega arith in
+    rw (e, stray_split m n (later r), drop-drop (16 * m) 16 r, f, or_assoc) refl
 
 pub folded : {A : Type 0} (test : A → Bool) (t : Bool) (xs : List A) → fold (λ found x. found || test x) t xs ≡ t || list_any test xs
 folded test t [] = sym (or-false t)

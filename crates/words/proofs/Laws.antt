@@ -4,7 +4,7 @@ use Rattle.std.specs.Cmp.Lexicographic.{pointwise}
 use Rattle.std.specs.List.{position_or_len}
 use Rattle.std.proofs.Math.Path.{refl}
 use Rattle.std.proofs.Common.{sym, ◌∙◌, ap, arith, eq-eqb, ne_eqb, ltb-false, take_all, get_or-drop}
-use Rattle.std.proofs.lemmas.Bool.{eqb-true, eqb-false}
+use Rattle.std.proofs.lemmas.Bool.{eqb-true, eqb-false, false≢true}
 use Rattle.std.proofs.lemmas.List.{get_or_append_left, take-append-le, length-append}
 use Rattle.std.proofs.Math.Seq.{get_or-append_seam}
 use denote.Ref.{Bor}
@@ -36,6 +36,17 @@ unfolding begins
 begun [] s = refl
 begun (w ∷ ws) [] = refl
 begun (w ∷ ws) (c ∷ cs) = and_cond (eqb w c) (begun ws cs) ∙ ap (λ (t : Bool). cond t (begins ws cs) false) (eqb_turned w c)
+
+-- what a text begins with is no longer than it
+pub begins_length : (ws s : List ℕ) → begins ws s ≡ true → length ws ≤ length s
+unfolding begins
+begins_length [] s e = omega arith
+begins_length (w ∷ ws) [] e = absurd (false≢true e)
+begins_length (w ∷ ws) (c ∷ cs) e = go (eqb c w) (λ h. begins_length ws cs h) e
+  where
+    go : (t : Bool) → (begins ws cs ≡ true → length ws ≤ length cs) → cond t (begins ws cs) false ≡ true → length (w ∷ ws) ≤ length (c ∷ cs)
+    go true shorter h = let g = shorter h in omega arith
+    go false shorter h = absurd (false≢true h)
 
 -- the place of the comment, or the end, as `position` finds it
 abbrev marks : ℕ → Bool
