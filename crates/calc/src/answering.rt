@@ -17,7 +17,7 @@ struct Answering<W, E> {
     number: u64,
     // False once a line can't be read or an answer could not be written: no step is done any more.
     going: bool,
-    // At a terminal, after a line that could not be read: it is to be typed again.
+    // At a terminal, after a line that could not be read: it is to be typed again. This may be so where nothing goes on: its answer could not be written.
     owed: bool,
 }
 

@@ -9,7 +9,7 @@ struct Entering<E> {
     stack: [u8; 16000],
     depth: usize,
     recording: [u8; 64000],
-    // The place after the last record.
+    // The place after the last record: record_line takes the two as they are, and promises both.
     end: usize,
     // The next line's.
     number: u64,
