@@ -7,7 +7,7 @@ use crate::closing::{BIAS, close};
 use number::{Number, TOP_BIT};
 
 // The digits that so many doublings take in: the next one, which is the lowest of those that are there, comes to stand highest. A sum hands over none, and is done
-// at once.
+// at once. It calls itself as `taken_in` is defined: over a range the same steps want a place and a sum carried along, and a law of every prefix.
 fn taken_in(digits: u64, places: u32) -> u32
     requires { places ≤ 32 }
     ensures { result ≡ taken_in places digits }

@@ -20,10 +20,7 @@ pub fn store(
     match answer {
         Some(n) => {
             places::put_at(stack, old, 1, n.b1, n.word);
-            *depth = std::num::wrapping_add_usize(
-                std::num::wrapping_sub_usize(*depth, taken),
-                left,
-            );
+            *depth = depth.wrapping_sub(taken).wrapping_add(left);
             Report::Done
         }
         None => Report::TooBig,

@@ -159,15 +159,6 @@ pub fn put_top(stack: &mut [u8], depth: usize, b1: u8, word: u32)
     put_in(stack, depth - 1, Number { b1, word });
 }
 
-fn at_least_five(len: usize) -> usize
-    ensures { result ≡ max 5 len }
-{
-    if len < 5 {
-        return 5;
-    }
-    len
-}
-
 // The top once more above itself, and whether there was one, and room. That is one comparison too, of a bound that is computed once for a stack that is asked over
 // and over.
 pub fn copy_top(stack: &mut [u8], depth: usize) -> bool
@@ -177,7 +168,7 @@ pub fn copy_top(stack: &mut [u8], depth: usize) -> bool
     if 16000 < len {
         return false;
     }
-    if at_least_five(len) / 5 - 1 <= std::num::wrapping_sub_usize(depth, 1) {
+    if len.max(5) / 5 - 1 <= depth.wrapping_sub(1) {
         return false;
     }
     let slot = depth - 1;

@@ -39,7 +39,7 @@ pub fn lacks_at(stack: &[u8], depth: &usize, takes: usize) -> bool
     if 3200 < d {
         return true;
     }
-    9223372036854775808 <= std::num::wrapping_sub_usize(len, 5 * d)
+    9223372036854775808 <= len.wrapping_sub(5 * d)
 }
 
 // Whether there is no top, by one comparison behind the limit of the length: depth 0 wraps to a slot that no stack has. A caller that asks it of one stack
@@ -51,7 +51,7 @@ pub fn lacks_top(stack: &[u8], depth: usize) -> bool
     if 16000 < len {
         return true;
     }
-    len / 5 <= std::num::wrapping_sub_usize(depth, 1)
+    len / 5 <= depth.wrapping_sub(1)
 }
 
 // Which report it is; no room where it is neither of the others. It asks anew and in its own way (`over_limits`): with the same tests as above, the compiler would

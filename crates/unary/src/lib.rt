@@ -23,7 +23,7 @@ pub fn negate(stack: &mut [u8], depth: &usize) -> Report
     let b1 = places::b1_at(stack, old, 0);
     let word = places::word_at(stack, old, 0);
     if b1 != 0 {
-        let flipped = std::num::wrapping_add_u32(word, 2147483648);
+        let flipped = word.wrapping_add(number::TOP_BIT);
         places::put_at(stack, old, 0, b1, flipped);
         return Report::Done;
     }
@@ -32,7 +32,7 @@ pub fn negate(stack: &mut [u8], depth: &usize) -> Report
     if four == 0 {
         return Report::Done;
     }
-    let other = std::num::wrapping_sub_u32(255, four) % 16777216;
+    let other = 255u32.wrapping_sub(four) % 16777216;
     places::put_at(stack, old, 0, 0, number::swapped(other));
     Report::Done
 }

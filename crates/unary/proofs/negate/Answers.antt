@@ -39,7 +39,7 @@ pub returns-then-b1-ne0 : goal.returns-then-b1-ne0
 unfolding row_of
 returns-then-b1-ne0 c =
     let p = c in
-    one_put Shipped _ _ 27 f refl (there (goal.at.returns-then-b1-ne0 c).Else-lacks_at) c.b1_at-b1.ensures c.word_at-word.ensures (formed (goal.at.returns-then-b1-ne0 c).Else-malformed_at) (ap Some (negate_full _ c.if-b1-ne0.true ∙ ap (number _) (sym p.wrapping_add_u32-flipped.ensures.value))) p.put_at.ensures
+    one_put Shipped _ _ 27 f refl (there (goal.at.returns-then-b1-ne0 c).Else-lacks_at) c.b1_at-b1.ensures c.word_at-word.ensures (formed (goal.at.returns-then-b1-ne0 c).Else-malformed_at) (ap Some (negate_full _ c.if-b1-ne0.true ∙ ap (number _) refl)) p.put_at.ensures
 
 pub returns-then-four-eq0 : goal.returns-then-four-eq0
 unfolding row_of
@@ -57,5 +57,5 @@ returns c =
     let s = c in
     let m = formed (goal.at.returns c).Else-malformed_at in
     one_put Shipped _ _ 27 f refl (there (goal.at.returns c).Else-lacks_at) (sym s.if-b1-ne0.false ∙ s.b1_at-b1.ensures) s.word_at-word.ensures m
-    (ap Some (negate_formed _ _ _ _ (omega arith) (ap malformed (short (goal.at.returns c).Else-b1-ne0) ∙ m) e.swapped-four.ensures e.if-four-eq0.false (omega arith) q.wrapping_sub_u32-other.ensures.value p.swapped.ensures))
+    (ap Some (negate_formed _ _ _ _ (omega arith) (ap malformed (short (goal.at.returns c).Else-b1-ne0) ∙ m) e.swapped-four.ensures e.if-four-eq0.false (omega arith) (omega arith) p.swapped.ensures))
     p.put_at-2.ensures

@@ -7,14 +7,10 @@ use Rattle.operands.proofs.storing.store.Goals as goal
 pub returns-in-Some : goal.returns-in-Some
 unfolding stored_at
 returns-in-Some c =
-    let q = c in
-    let p = c in
-    let m = c in
-    let i = c in
-    let a = i.args in
-    let below : (a.depth.now + 2 ^ 64 - a.taken) % 2 ^ 64 ≡ q.wrapping_sub_usize.result = omega (arith, q.wrapping_sub_usize.ensures.value) in
-    ap (λ (x : Answer). stored_at a.stack.now a.depth.now a.old x a.taken a.left) m.in-Some.is
-    ∙ ap₂ (λ (d : ℕ) (s : List ℕ). (0, d, s)) (ap (λ (d : ℕ). (d + a.left) % 2 ^ 64) below ∙ sym c.wrapping_add_usize.ensures.value) (sym p.put_at.ensures)
+    let a = c.args in
+    let below : (a.depth.now + 2 ^ 64 - a.taken) % 2 ^ 64 ≡ (a.depth.now + (2 ^ 64 - a.taken)) % 2 ^ 64 = omega arith in
+    ap (λ (x : Answer). stored_at a.stack.now a.depth.now a.old x a.taken a.left) c.in-Some.is
+    ∙ ap₂ (λ (d : ℕ) (s : List ℕ). (0, d, s)) (ap (λ (d : ℕ). (d + a.left) % 2 ^ 64) below) (sym c.put_at.ensures)
 
 pub returns-in-None : goal.returns-in-None
 unfolding stored_at

@@ -1,5 +1,5 @@
 -- `lacks_at` meets its contract: of numbers that are small, a difference that wraps is one below 0.
-use Rattle.std.proofs.Common.{Bool, List, arith, false, leb, leb-false, leb-true, length, refl, sym, true, ℕ, ◌%◌, ◌*◌, ◌+◌, ◌<◌, ◌^◌, ◌≡◌, ◌≤◌}
+use Rattle.std.proofs.Common.{Bool, List, arith, false, leb, leb-false, leb-true, length, refl, sym, true, ℕ, ◌%◌, ◌*◌, ◌+◌, ◌-◌, ◌<◌, ◌^◌, ◌≡◌, ◌≤◌}
 use Rattle.slots.specs.LimitLaws.{over_length, over_depth}
 use Rattle.slots.specs.Reach.{lacking}
 use Rattle.slots.specs.ReachLaws.{lacking_over, lacking_few, enough}
@@ -20,4 +20,7 @@ pub returns-then-d-gt3200 : goal.returns-then-d-gt3200
 returns-then-d-gt3200 c = sym (lacking_over _ _ _ (over_depth _ _ (omega arith)))
 
 pub returns : goal.returns
-returns c = by_sign _ _ _ _ (omega arith) (omega arith) (omega arith) (omega arith) c.wrapping_sub_usize.ensures.value _ refl
+returns c =
+    let s = c.args.stack.now in
+    let d = c.args.depth.now in
+    by_sign s d c.args.takes ((length s + (2 ^ 64 - 5 * d)) % 2 ^ 64) (omega arith) (omega arith) (omega arith) (omega arith) (omega arith) _ refl

@@ -1,5 +1,5 @@
 -- `lacks_top` meets its contract: the slot of the top is among those that the stack holds, or there is none.
-use Rattle.std.proofs.Common.{Bool, List, arith, false, leb, leb-false, leb-true, length, refl, sym, true, ℕ, ◌%◌, ◌+◌, ◌/◌, ◌<◌, ◌^◌, ◌≡◌, ◌≤◌}
+use Rattle.std.proofs.Common.{Bool, List, arith, false, leb, leb-false, leb-true, length, refl, sym, true, ℕ, ◌%◌, ◌+◌, ◌-◌, ◌/◌, ◌<◌, ◌^◌, ◌≡◌, ◌≤◌}
 use Rattle.slots.specs.LimitLaws.{over_length}
 use Rattle.slots.specs.Reach.{lacking}
 use Rattle.slots.specs.ReachLaws.{has, lacking_over, enough}
@@ -17,4 +17,4 @@ pub returns-then-len-gt16000 : goal.returns-then-len-gt16000
 returns-then-len-gt16000 c = sym (lacking_over _ _ _ (over_length _ _ (omega arith)))
 
 pub returns : goal.returns
-returns c = by_slot _ _ _ (omega arith) (omega arith) c.wrapping_sub_usize.ensures.value _ refl
+returns c = by_slot c.args.stack.now c.args.depth ((c.args.depth + (2 ^ 64 - 1)) % 2 ^ 64) (omega arith) (omega arith) (omega arith) _ refl
