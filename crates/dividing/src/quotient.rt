@@ -33,7 +33,14 @@ pub fn divide<E: Rom>(stack: &mut [u8], depth: &mut usize) -> Report
 
 // With the first number re-stacked. A full divisor and a short one go on apart: the compiler then has each one's exponent where it is used. The parts of an operand
 // stand side by side: as one struct, a division took 126.5 instructions in place of 83.0, and 87.5 where these two functions are told to be inlined.
-fn divided<E: Rom>(stack: &mut [u8], depth: &mut usize, old: usize, sign: u32, m: u32, e: u32) -> Report
+fn divided<E: Rom>(
+    stack: &mut [u8],
+    depth: &mut usize,
+    old: usize,
+    sign: u32,
+    m: u32,
+    e: u32,
+) -> Report
     requires { First E.EDITION stack.old depth.old old (operandOf sign m e) }
     ensures { operate_of E.EDITION stack.old depth.old 5 ≡ (outcome (number_of result) depth.new, stack.new) }
 {

@@ -68,9 +68,9 @@ pub fn duplicate<const IN_LOOP: bool>(stack: &mut [u8], depth: &mut usize) -> Re
     ensures { (ed : Edition) → operate_of ed stack.old depth.old 49 ≡ (outcome (number_of result) depth.new, stack.new) }
 {
     let old = *depth;
-    if copies::<IN_LOOP>(stack, old) {
-        *depth = old - table::DUPLICATE_TAKES + table::DUPLICATE_LEAVES;
-        return Report::Done;
+    if !copies::<IN_LOOP>(stack, old) {
+        return slots::refusal(stack, old, table::DUPLICATE_TAKES);
     }
-    slots::refusal(stack, old, table::DUPLICATE_TAKES)
+    *depth = old - table::DUPLICATE_TAKES + table::DUPLICATE_LEAVES;
+    Report::Done
 }

@@ -38,6 +38,14 @@ pub fn operate_as<E: Rom, const IN_LOOP: bool>(
     }
 }
 
+// Out of line, one for each edition: a function that had both tables would save registers for both on every call.
+#[inline(never)]
+fn operate_once<E: Rom>(stack: &mut [u8], depth: &mut usize, literal: u8) -> Report
+    ensures { operate_of E.EDITION stack.old depth.old literal ≡ (outcome (number_of result) depth.new, stack.new) }
+{
+    operate_as::<E, false>(stack, depth, literal)
+}
+
 // With the depth moved where it stands: the report is all that is answered.
 pub fn operate_in_place(stack: &mut [u8], depth: &mut usize, literal: u8) -> Report
     ensures { operate_of unnamed stack.old depth.old literal ≡ (outcome (number_of result) depth.new, stack.new) }
@@ -54,8 +62,8 @@ pub fn operate_in_place_in(
     ensures { operate_of edition stack.old depth.old literal ≡ (outcome (number_of result) depth.new, stack.new) }
 {
     match edition {
-        Edition::Shipped => operate_as::<Shipped, false>(stack, depth, literal),
-        Edition::Mended => operate_as::<Mended, false>(stack, depth, literal),
+        Edition::Shipped => operate_once::<Shipped>(stack, depth, literal),
+        Edition::Mended => operate_once::<Mended>(stack, depth, literal),
     }
 }
 
