@@ -57,7 +57,8 @@ fn seventeen(byte: u8, low: u16) -> u32
     digits.wrapping_neg()
 }
 
-// The sign bytes settle the seventeenth bit, as in the listing: they and the carry make 0 or 255, a sign byte again, where the sum is stored short.
+// The sign bytes settle the seventeenth bit, as in the listing: they and the carry make 0 or 255, a sign byte again, where the sum is stored short. A short
+// number comes as its sign byte and low half: as one word it is read before b1 is tested, and taken apart again, two instructions more.
 pub fn short_sum(b: u8, first: u16, c: u8, other: u16, less: bool) -> Short
     ensures { (x y : ℕ) → x / 2 ^ 24 ≡ b → low (number 0 x) ≡ first → y / 2 ^ 24 ≡ c → low (number 0 y) ≡ other
         → Says less (number 0 x) (number 0 y) result }

@@ -1,5 +1,5 @@
 // The table of the eleven literals, a row each: the literal, how many numbers it takes, how many it leaves. The checks read it, and the compiler
-// folds the reads.
+// folds the reads. A literal is any byte, and a row three constants: as a constant struct or an array it made two to four times as much to prove of whoever reads it.
 pub const EXCHANGE: u8 = 1;
 
 pub const EXCHANGE_TAKES: usize = 2;

@@ -37,7 +37,7 @@ pub fn complement(h: u16) -> u16
     h.wrapping_neg()
 }
 
-// A short number's low byte comes first, as the machine has it: with the word swapped, its low half stands as it is.
+// A short number's low byte comes first, as the machine has it: with the word swapped, its low half stands as it is, and is one shift of what was loaded.
 pub fn low_half(word: u32) -> u16
     ensures { result ≡ low (number 0 word) }
 {

@@ -6,7 +6,8 @@ ghost use Rattle.slots.specs.Numbers.{number_of};
 use number::Number;
 use slots::Report;
 
-// The depth is read again where it is written: one that is kept costs a register for the whole operation.
+// The depth is read again where it is written: one that is kept costs a register for the whole operation. What was taken and is left is the literal's row, of which
+// `stored_at` speaks for any.
 pub fn store(
     stack: &mut [u8],
     depth: &mut usize,

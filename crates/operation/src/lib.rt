@@ -67,6 +67,7 @@ pub fn operate_in_place_in(
     }
 }
 
+// Not by `operate_in`, which asks what edition it is.
 pub fn operate(stack: &mut [u8], depth: usize, literal: u8) -> Outcome
     ensures { operate_of unnamed stack.old depth literal ≡ (outcome (number_of result.report) result.depth, stack.new) }
 {

@@ -20,6 +20,8 @@ fn four_in(stack: &[u8], slot: usize) -> u32
     number::joined(stack[at + 4], stack[at + 3], stack[at + 2], stack[at + 1])
 }
 
+// Each of these asks for itself whether the number is there, and a caller that has asked pays nothing: one function over what is read would have to be told it by a
+// closure, and the closure's contract.
 pub fn b1_at(stack: &[u8], depth: usize, above: u8) -> u8
     ensures { result ≡ (number_at stack.now depth above).b1 }
 {
@@ -40,6 +42,7 @@ pub fn b2_at(stack: &[u8], depth: usize, above: u8) -> u8
     stack[5 * (depth - nth) + 1]
 }
 
+// By a sum: of an array for `from_le_bytes` the compiler reads single bytes.
 fn half(b3: u8, b4: u8) -> u16
     ensures { result ≡ 256 * b4 + b3 }
 {
@@ -87,7 +90,8 @@ pub fn malformed_at(stack: &[u8], depth: usize, above: u8) -> bool
     b2 != 255
 }
 
-// Lowest byte first, in a function of its own: the compiler stores them at once.
+// Lowest byte first, in a function of its own: the compiler stores them at once. The slot is there for this function, the next and `four_in`: a type for it would
+// borrow the stack once more to say so.
 fn put_four(stack: &mut [u8], slot: usize, four: u32)
     requires { 5 * slot + 5 ≤ length stack.old }
     ensures { stack.new ≡ put_four stack.old slot four }
@@ -107,6 +111,7 @@ fn put_in(stack: &mut [u8], slot: usize, n: Number)
     stack[5 * slot] = n.b1;
 }
 
+// b1 and the word stand apart: as one struct they are copied in a machine word and taken apart again, six instructions of int.
 pub fn put_at(stack: &mut [u8], depth: usize, above: u8, b1: u8, word: u32)
     ensures { stack.new ≡ put_at stack.old depth above (number_of b1 word) }
 {
@@ -159,7 +164,7 @@ pub fn put_top(stack: &mut [u8], depth: usize, b1: u8, word: u32)
     put_in(stack, depth - 1, Number { b1, word });
 }
 
-// The top once more above itself, and whether there was one, and room. That is one comparison too, of a bound that is computed once for a stack that is asked over
+// The top once more above itself, and whether there was one, and room: nothing is handed over where there was, and the report is asked for apart (`refusal`). That is one comparison too, of a bound that is computed once for a stack that is asked over
 // and over.
 pub fn copy_top(stack: &mut [u8], depth: usize) -> bool
     ensures { (not result ≡ lacking stack.old (depth + 1) 2) × (stack.new ≡ copied_of stack.old depth) }

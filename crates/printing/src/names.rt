@@ -1,4 +1,4 @@
-// A literal's name, as a sheet has it.
+// A literal's name, as a sheet has it: a match, since naming's table, the other way round, would be searched and could lack a row.
 ghost use Rattle.text.specs.Page.{Puts};
 ghost use Rattle.printing.specs.Names.{number_name, name_of};
 

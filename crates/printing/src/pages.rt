@@ -1,4 +1,4 @@
-// What `show` prints of a recording that is replayed on a stack.
+// What `show` prints of a recording that is replayed on a stack. How much was put is answered, since it is promised of any slice (`printed`).
 ghost use Rattle.std.specs.Prelude.{◌≡◌, ◌≤◌};
 ghost use Rattle.text.specs.Page.{Puts};
 ghost use Rattle.recording.specs.Recording.{records};

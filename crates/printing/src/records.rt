@@ -6,7 +6,7 @@ ghost use Rattle.printing.specs.Page.{shown_top, record_line, record_lines};
 use crate::names::put_name;
 use text::Page;
 
-// A record of an empty stack has no top to show: depth 0 and zeros. Of a push it is what was pushed.
+// A record of an empty stack has no top to show: depth 0 and zeros. No bytes stand for that, as `put_step` has it. Of a push it is what was pushed.
 #[tactic(auto, unfolding(crate::specs::Page::shown_top))]
 fn shown_top(bytes: &[u8]) -> &[u8]
     ensures { result.now ≡ shown_top bytes.now }

@@ -56,6 +56,7 @@ fn put_why(page: &mut Page, why: Why)
     }
 }
 
+// Not reply's: the reason is another enum, and what follows it is always the same.
 pub fn put_complaint(page: &mut Page, number: u64, text: &[u8], why: Why)
     ensures { Puts page.old page.new (complaint_of number text.now why) }
 {

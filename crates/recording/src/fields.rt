@@ -1,4 +1,5 @@
-// The fields of a record. A byte that it lacks reads as 0; a caller whose record has 16 bytes pays nothing for that.
+// The fields of a record. A byte that it lacks reads as 0; a caller whose record has 16 bytes pays nothing for that, and none has to promise
+// how many there are.
 ghost use Rattle.std.specs.Prelude.{◌≡◌, get_or};
 ghost use Rattle.recording.specs.Recording.{literal_in, report_in, depth_in, top_in};
 
@@ -20,7 +21,7 @@ pub fn report_in(bytes: &[u8]) -> u8
     byte(bytes, 1)
 }
 
-// Low byte first.
+// Low byte first. Each may be lacking, so they are no array for `from_le_bytes`.
 pub fn depth_in(bytes: &[u8]) -> usize
     ensures { result ≡ depth_in bytes.now }
 {

@@ -16,6 +16,7 @@
 use standard::say;
 use std::io::Write;
 
+// As in `show`, written out: one function for both would take five arguments, three of them messages.
 fn main(rt: HostRuntime) {
     let mut stack = [0u8; 16000];
     // One byte more than a recording may have tells a longer one.

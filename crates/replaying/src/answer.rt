@@ -38,6 +38,7 @@ impl Refusal {
     }
 }
 
+// Three answers side by side, as the line that is printed and C have them: none is more an error than another.
 #[derive(Clone, Copy)]
 pub enum Verdict {
     // How many records there are.

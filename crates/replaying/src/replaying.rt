@@ -29,7 +29,7 @@ pub fn replay(stack: &mut [u8], recording: &[u8]) -> Replayed
     }
     let len = recording.len();
     let mut depth = 0;
-    // Counted down: the number that is asked for at the end is then no counter of its own.
+    // Counted down: the number that is asked for at the end is then no counter of its own. Counted up it took two instructions a record more.
     let mut left = len;
     loop {
         if left == 0 {

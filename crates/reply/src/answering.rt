@@ -7,7 +7,8 @@ use calculator::Edition;
 use sheet::{Fault, Step};
 use text::Page;
 
-// The depth and the edition after a line, whether another step may be done, and how much was put for standard output and for standard error.
+// The depth and the edition after a line, whether another step may be done, and how much was put for standard output and for standard error:
+// `answer_line` promises every byte of any slice, and nothing put for standard error is no complaint.
 #[derive(Clone, Copy)]
 pub struct Answered {
     pub depth: usize,

@@ -3,6 +3,7 @@ ghost use Rattle.std.specs.Prelude.{◌≡◌, ◌<◌, ◌≤◌, IfSome};
 ghost use Rattle.sheet.specs.Decimal.{decimal_in};
 
 // None where the text is no number, or the number is over the limit.
+// Not `parse`, which takes a plus sign.
 pub(crate) fn decimal_in(most: u32, text: &[u8]) -> Option<u32>
     requires { most < 65536 }
     ensures value { result ≡ decimal_in most text.now }

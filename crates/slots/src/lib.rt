@@ -1,4 +1,5 @@
-// The lent stack: its limits, whether it has the numbers that a literal takes, and a view of its top.
+// The lent stack: its limits, whether it has the numbers that a literal takes, and a view of its top. The stack and its depth go side by side: C hands them
+// over so, with any bytes and any depth, and a struct that says no more of them would be taken apart at each call.
 #![tactic(auto)]
 
 mod limits;

@@ -1,4 +1,4 @@
-// The view: the top number's own five bytes, as a part of the caller's slice.
+// The view: the top number's own five bytes, as a part of the caller's slice. No bytes, and not None, where there is no top, as C and `view_of` have it.
 ghost use Rattle.std.specs.Prelude.{◌≡◌};
 ghost use Rattle.slots.specs.View.{view_of};
 

@@ -1,4 +1,4 @@
-// The one line that `replay` prints of a recording that is replayed on a stack.
+// The one line that `replay` prints of a recording that is replayed on a stack. How much was put is answered, since it is promised of any slice (`printed`).
 ghost use Rattle.std.specs.Prelude.{◌≡◌};
 ghost use Rattle.replaying.specs.Replay.{replay_of};
 ghost use Rattle.telling.specs.Verdict.{answer_of, printed};

@@ -1,4 +1,5 @@
-// A page: bytes that a caller lends, and how many of them are written.
+// A page: bytes that a caller lends, and how many of them are written. Text is put by methods and functions, and not by Display or `write!`: that promises what it
+// writes where it answers Ok, and a page, which leaves out what finds no room, promises every byte.
 ghost use Rattle.std.specs.Prelude.{◌≡◌, ◌∷◌, [], take};
 ghost use Rattle.text.specs.Put.{before};
 ghost use Rattle.text.specs.Page.{written, Puts};
@@ -50,6 +51,7 @@ impl<'a> Page<'a> {
     }
 
     #[tactic(auto, using(crate::proofs::Puts::puts_take), unfolding(crate::specs::Put::puts_of))]
+    // This, `put_each` and `put_shown` of wording are loops of a line or two: one over a closure would need its contract to say what is put for a byte.
     pub fn put_all(&mut self, bytes: &[u8])
         ensures { Puts self.old self.new bytes.now }
     {

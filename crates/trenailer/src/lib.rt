@@ -1,5 +1,6 @@
 // The calculator for programs in other languages: include/trenailer.h declares these nine functions, and the crate trenailer_c exports
 // them. A slice passes as a pointer and a length, and what a function answers beside its result goes out through a pointer.
+// Reports, editions, fields and the cases of a cell pass as numbers, as C has them.
 #![tactic(auto)]
 
 ghost use Rattle.std.specs.Prelude.{◌≡◌};

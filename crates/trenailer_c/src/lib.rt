@@ -1,5 +1,6 @@
 // The C interface's exports: include/trenailer.h declares these nine functions. Each is the one of its name in the crate trenailer, and
 // promises the same. A slice passes as a pointer and a length, and what a function answers beside its result goes out through a pointer.
+// The two crates are apart since a crate is a library or a static library, and `vectors` calls trenailer.
 #![tactic(auto)]
 
 ghost use Rattle.std.specs.Prelude.{◌≡◌};

@@ -13,6 +13,7 @@ const SCALE: u64 = 1023 - 160;
 // The lowest bit of a double's exponent field.
 const FIELD: u64 = 1 << 52;
 
+// Not `From`: what a number is worth is asked for by this name, which docs/READING.md has.
 pub fn double(x: Number) -> f64
     ensures { result ≡ double_of x }
 {

@@ -7,6 +7,7 @@ use text::Page;
 pub(crate) struct Answer {
     // Of a replay, the number of the field that differs.
     pub(crate) field: Option<u8>,
+    // Any byte: a case may give its report itself.
     pub(crate) report: u8,
     pub(crate) position: usize,
     pub(crate) depth: usize,

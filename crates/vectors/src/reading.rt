@@ -6,7 +6,7 @@ pub(crate) fn split_once(text: &[u8], byte: u8) -> Option<(&[u8], &[u8])> {
     Some((&text[..place], &text[place + 1..]))
 }
 
-// A number in decimal, of one digit at least and below 2^64.
+// A number in decimal, of one digit at least and below 2^64. Not `parse`, which takes a plus sign.
 pub(crate) fn number(digits: &[u8]) -> Option<usize> {
     if digits.is_empty() {
         return None;

@@ -4,7 +4,7 @@ ghost use Rattle.wording.specs.Wording.{top_of, step_answer};
 
 use text::Page;
 
-// A space before each byte.
+// A space before each byte. What stands for no top is a line of its own here, and five zeros in a record.
 #[tactic(auto, unfolding(crate::specs::Wording::top_of))]
 fn put_top(page: &mut Page, top: &[u8])
     ensures { Puts page.old page.new (top_of top.now) }
@@ -16,6 +16,7 @@ fn put_top(page: &mut Page, top: &[u8])
     }
 }
 
+// The report is a byte: `show` puts what a record has, which may be any.
 #[tactic(auto, using(text::proofs::Puts::puts_append))]
 pub fn put_step(page: &mut Page, report: u8, depth: usize, top: &[u8])
     ensures { Puts page.old page.new (step_answer report depth top.now) }

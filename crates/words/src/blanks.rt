@@ -28,7 +28,7 @@ fn comment(line: &[u8]) -> usize
     line.iter().position(|c| *c == b'#').unwrap_or(line.len())
 }
 
-// What stands before the comment of the line with this number.
+// What stands before the comment of the line with this number, which goes beside it: the first alone may begin with a mark.
 pub fn told(line: &[u8], number: u64) -> &[u8]
     ensures { result.now ≡ told_of number line.now }
 {
