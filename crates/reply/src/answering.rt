@@ -27,7 +27,7 @@ fn goes_on(terminal: bool, said: Result<Step, Fault>) -> bool
     }
 }
 
-// The edition, the depth and whether steps may go on stay apart, as in `line_left`: the caller keeps them among other fields, and a struct would be taken apart again.
+// The edition, the depth and whether steps may go on stay apart, as in `line_left`: a caller has them among other fields, and would take a struct apart.
 #[tactic(auto, unfolding(crate::specs::Following::line_left))]
 pub fn answer_line(
     edition: Edition,

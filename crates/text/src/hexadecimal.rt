@@ -1,5 +1,5 @@
 // Hexadecimal numbers.
-ghost use Rattle.std.specs.Prelude.{◌≡◌, ◌<◌, ◌≤◌, SomeIff};
+ghost use Rattle.std.specs.Prelude.{◌≡◌, ◌<◌, SomeIff, min};
 ghost use Rattle.text.specs.Digits.{hex_of, each_of, hexes_of, value_of};
 ghost use Rattle.text.specs.Page.{Puts};
 
@@ -34,12 +34,13 @@ impl Page<'_> {
     }
 }
 
-// The value of a digit of either case, below a radix of at most 16.
+// The value of a digit of either case, below a radix of 16 at most.
 #[tactic(auto, unfolding(crate::specs::Digits::value_of))]
 pub fn digit(c: u8, radix: u32) -> Option<u32>
-    requires two { 2 ≤ radix }
-    requires sixteen { radix ≤ 16 }
-    ensures { SomeIff result (value_of c < radix) (value_of c) }
+    ensures { SomeIff result (value_of c < min radix 16) (value_of c) }
 {
-    (c as char).to_digit(radix)
+    match (c as char).to_digit(16) {
+        Some(value) if value < radix => Some(value),
+        _ => None,
+    }
 }
