@@ -164,8 +164,8 @@ pub fn put_top(stack: &mut [u8], depth: usize, b1: u8, word: u32)
     put_in(stack, depth - 1, Number { b1, word });
 }
 
-// The top once more above itself, and whether there was one, and room: nothing is handed over where there was, and the report is asked for apart (`refusal`). That is one comparison too, of a bound that is computed once for a stack that is asked over
-// and over.
+// The top once more above itself, and whether there was one, and room: nothing is handed over where there was, and the report is asked for apart (`refusal`).
+// That is one comparison too, of a bound that is computed once for a stack that is asked over and over.
 pub fn copy_top(stack: &mut [u8], depth: usize) -> bool
     ensures { (not result ≡ lacking stack.old (depth + 1) 2) × (stack.new ≡ copied_of stack.old depth) }
 {

@@ -6,8 +6,8 @@ ghost use Rattle.slots.specs.Reach.{lacking, refusal_of};
 use crate::limits::over_limits;
 use crate::report::Report;
 
-// Each literal asks this first, and what the report is only where the answer is yes. It asks by itself: the compiler then drops the questions of `places` behind it. In 32 bits the last product is one that nothing else
-// computes: the compiler then tests and jumps, where it would else compute all four answers.
+// Each literal asks this first, and what the report is only where the answer is yes. It asks by itself: the compiler then drops the questions of `places` behind it.
+// In 32 bits the last product is one that nothing else computes: the compiler then tests and jumps, where it would else compute all four answers.
 pub fn lacks(stack: &[u8], depth: usize, takes: usize) -> bool
     ensures { result ≡ lacking stack.now depth takes }
 {
