@@ -14,4 +14,4 @@ pub returns-then-b1_at-ne0 : goal.returns-then-b1_at-ne0
 returns-then-b1_at-ne0 c = sym (odd_full _ (λ z. c.if-b1_at-ne0.true (c.b1_at.ensures ∙ z)))
 
 pub returns : goal.returns
-returns c = let e = c in by_word _ (sym e.b1_at.ensures ∙ e.if-b1_at-ne0.false) _ (ap (λ w. eqb (w / 2 ^ 8) (255 * 2 ^ 16)) (sym c.word_at.ensures))
+returns c = by_word _ (sym c.b1_at.ensures ∙ c.if-b1_at-ne0.false) _ (ap (λ w. eqb (w / 2 ^ 8) (255 * 2 ^ 16)) (sym c.word_at.ensures))

@@ -10,7 +10,7 @@ b1 n = n.b1
 
 pub returns : goal.returns
 unfolding number_in
-returns c = let e = c in sym (ap b1 (number_at_lem _ _ _ (sym e.lacks.ensures ∙ e.if-lacks.false)))
+returns c = sym (ap b1 (number_at_lem _ _ _ (sym c.lacks.ensures ∙ c.if-lacks.false)))
 
 pub returns-then-lacks : goal.returns-then-lacks
 returns-then-lacks c = sym (ap b1 (none_at _ _ _ (sym c.lacks.ensures ∙ c.if-lacks.true)))
@@ -22,4 +22,4 @@ pub overflow_mul-result : goal.overflow_mul-result
 overflow_mul-result c = omega (arith, has _ _ _ (sym c.lacks.ensures ∙ c.if-lacks.false))
 
 pub bounds-stack-depth : goal.bounds-stack-depth
-bounds-stack-depth c = let e = c in omega (arith, has _ _ _ (sym e.lacks.ensures ∙ e.if-lacks.false))
+bounds-stack-depth c = omega (arith, has _ _ _ (sym c.lacks.ensures ∙ c.if-lacks.false))

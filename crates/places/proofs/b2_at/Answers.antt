@@ -7,8 +7,7 @@ use Rattle.places.proofs.b2_at.Goals as goal
 
 pub returns : goal.returns
 returns c =
-    let e = c in
-    sym (ap b2 (number_at_lem _ _ _ (sym e.lacks.ensures ∙ e.if-lacks.false)) ∙ (parts_in _ _ (λ k. omega (arith, e.shared_slice_known-1.given k))).0)
+    sym (ap b2 (number_at_lem _ _ _ (sym c.lacks.ensures ∙ c.if-lacks.false)) ∙ (parts_in _ _ (λ k. omega (arith, c.shared_slice_known-1.given k))).0)
 
 pub returns-then-lacks : goal.returns-then-lacks
 returns-then-lacks c = sym (ap b2 (none_at _ _ _ (sym c.lacks.ensures ∙ c.if-lacks.true)))
@@ -23,4 +22,4 @@ pub overflow_add-result : goal.overflow_add-result
 overflow_add-result c = omega (arith, has _ _ _ (sym c.lacks.ensures ∙ c.if-lacks.false))
 
 pub bounds-stack-depth : goal.bounds-stack-depth
-bounds-stack-depth c = let e = c in omega (arith, has _ _ _ (sym e.lacks.ensures ∙ e.if-lacks.false))
+bounds-stack-depth c = omega (arith, has _ _ _ (sym c.lacks.ensures ∙ c.if-lacks.false))

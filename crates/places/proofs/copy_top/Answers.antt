@@ -16,27 +16,20 @@ refused i l = (sym l, sym (copied_nowhere _ _ l))
 
 there : (c : Else-max-depth) → (let a = c.args in lacking a.stack.now (a.depth + 1) 2 ≡ false)
 there c =
-    let w = c in
-    copies w.args.stack.now w.args.depth ((w.args.depth + (2 ^ 64 - 1)) % 2 ^ 64) w.max.result (omega arith) (omega arith) (omega arith) (w.max.ensures ∙ max_comm _ _) c.if-max-depth.false
+    copies c.args.stack.now c.args.depth ((c.args.depth + (2 ^ 64 - 1)) % 2 ^ 64) c.max.result (omega arith) (omega arith) (omega arith) (c.max.ensures ∙ max_comm _ _) c.if-max-depth.false
 
 pub returns-then-len-gt16000 : goal.returns-then-len-gt16000
-returns-then-len-gt16000 c = let i = c in refused (goal.at.returns-then-len-gt16000 c).Start (lacking_over _ _ _ (over_length i.args.stack.now _ (omega arith)))
+returns-then-len-gt16000 c = refused (goal.at.returns-then-len-gt16000 c).Start (lacking_over _ _ _ (over_length c.args.stack.now _ (omega arith)))
 
 pub returns-then-max-depth : goal.returns-then-max-depth
 returns-then-max-depth c =
-    let w = c in
-    let i = c in
-    refused (goal.at.returns-then-max-depth c).Start (no_copy i.args.stack.now i.args.depth ((i.args.depth + (2 ^ 64 - 1)) % 2 ^ 64) w.max.result (omega arith) (omega arith) (omega arith) (w.max.ensures ∙ max_comm _ _) c.if-max-depth.true)
+    refused (goal.at.returns-then-max-depth c).Start (no_copy c.args.stack.now c.args.depth ((c.args.depth + (2 ^ 64 - 1)) % 2 ^ 64) c.max.result (omega arith) (omega arith) (omega arith) (c.max.ensures ∙ max_comm _ _) c.if-max-depth.true)
 
 pub returns : goal.returns
 unfolding number_in
-returns c =
-    let p = c in
-    let w = c in
-    let e = c in
-    let i = c in (
-      sym (there (goal.at.returns c).Else-max-depth),
-      p.put_in.ensures
-          ∙ ap (λ (n : ℕ). put_in i.args.stack.now i.args.depth (number (get_or i.args.stack.now (5 * (i.args.depth - 1)) 0) n)) (w.swapped-word.ensures ∙ ap swapped_of w.four_in.ensures ∙ four_word i.args.stack.now _ (λ k. omega (arith, e.slice_known-1.given k)))
-          ∙ sym (copied_there _ _ (there (goal.at.returns c).Else-max-depth)),
-    )
+returns c = (
+  sym (there (goal.at.returns c).Else-max-depth),
+  c.put_in.ensures
+      ∙ ap (λ (n : ℕ). put_in c.args.stack.now c.args.depth (number (get_or c.args.stack.now (5 * (c.args.depth - 1)) 0) n)) (c.swapped-word.ensures ∙ ap swapped_of c.four_in.ensures ∙ four_word c.args.stack.now _ (λ k. omega (arith, c.slice_known-1.given k)))
+      ∙ sym (copied_there _ _ (there (goal.at.returns c).Else-max-depth)),
+)

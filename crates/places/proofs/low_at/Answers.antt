@@ -12,8 +12,7 @@ there c = sym c.lacks.ensures ∙ c.if-lacks.false
 
 pub returns : goal.returns
 returns c =
-    let e = c in
-    c.half.ensures ∙ sym (ap low (number_at_lem _ _ _ (there (goal.at.returns c).Else-lacks)) ∙ (parts_in _ _ (λ k. omega (arith, e.shared_slice_known-1.given k))).1)
+    c.half.ensures ∙ sym (ap low (number_at_lem _ _ _ (there (goal.at.returns c).Else-lacks)) ∙ (parts_in _ _ (λ k. omega (arith, c.shared_slice_known-1.given k))).1)
 
 pub returns-then-lacks : goal.returns-then-lacks
 returns-then-lacks c = sym (ap low (none_at _ _ _ (sym c.lacks.ensures ∙ c.if-lacks.true)))

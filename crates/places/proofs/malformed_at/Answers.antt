@@ -64,7 +64,7 @@ pub bounds-stack-at-2 : goal.bounds-stack-at-2
 bounds-stack-at-2 c = omega (arith, has _ _ _ (there (goal.at.bounds-stack-at-2 c).Else-lacks))
 
 pub returns-then-b2-eq0 : goal.returns-then-b2-eq0
-returns-then-b2-eq0 c = let e = c in sym (positive _ _ _ (there (goal.at.returns-then-b2-eq0 c).Else-lacks) (bytes (goal.at.returns-then-b2-eq0 c).Else-lacks) c.if-stack-at-ne0.false c.if-b2-eq0.true)
+returns-then-b2-eq0 c = sym (positive _ _ _ (there (goal.at.returns-then-b2-eq0 c).Else-lacks) (bytes (goal.at.returns-then-b2-eq0 c).Else-lacks) c.if-stack-at-ne0.false c.if-b2-eq0.true)
 
 pub returns : goal.returns
-returns c = let e = c in by_b2 _ _ _ (there (goal.at.returns c).Else-lacks) (bytes (goal.at.returns c).Else-lacks) c.if-stack-at-ne0.false c.if-b2-eq0.false _ refl
+returns c = by_b2 _ _ _ (there (goal.at.returns c).Else-lacks) (bytes (goal.at.returns c).Else-lacks) c.if-stack-at-ne0.false c.if-b2-eq0.false _ refl

@@ -5,15 +5,13 @@ use Rattle.places.proofs.put_at.Goals as goal
 
 pub returns : goal.returns
 returns c =
-    let p = c in
-    let e = c in
-    p.put_in.ensures ∙ sym (put_there _ _ _ _ (sym e.lacks.ensures ∙ e.if-lacks.false))
+    c.put_in.ensures ∙ sym (put_there _ _ _ _ (sym c.lacks.ensures ∙ c.if-lacks.false))
 
 pub returns-then-lacks : goal.returns-then-lacks
 returns-then-lacks c = sym (put_nowhere _ _ _ _ (sym c.lacks.ensures ∙ c.if-lacks.true))
 
 pub overflow_sub-depth : goal.overflow_sub-depth
-overflow_sub-depth c = let e = c in omega (arith, has _ _ _ (sym e.lacks.ensures ∙ e.if-lacks.false))
+overflow_sub-depth c = omega (arith, has _ _ _ (sym c.lacks.ensures ∙ c.if-lacks.false))
 
 pub put_in-requires : goal.put_in-requires
-put_in-requires c = let e = c in omega (arith, has _ _ _ (sym e.lacks.ensures ∙ e.if-lacks.false))
+put_in-requires c = omega (arith, has _ _ _ (sym c.lacks.ensures ∙ c.if-lacks.false))

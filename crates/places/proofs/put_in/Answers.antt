@@ -5,8 +5,6 @@ use Rattle.places.proofs.put_in.Goals as goal
 
 pub returns : goal.returns
 returns c =
-    let p = c in
-    let i = c in
-    ap (λ (t : List ℕ). set t (5 * i.args.slot) i.args.n.b1)
-    (p.put_four.ensures ∙ ap (put_four i.args.stack.now i.args.slot) p.swapped.ensures)
-    ∙ put_swapped _ _ i.requires i.args.n (omega arith)
+    ap (λ (t : List ℕ). set t (5 * c.args.slot) c.args.n.b1)
+    (c.put_four.ensures ∙ ap (put_four c.args.stack.now c.args.slot) c.swapped.ensures)
+    ∙ put_swapped _ _ c.requires c.args.n (omega arith)

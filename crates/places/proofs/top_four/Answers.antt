@@ -11,10 +11,9 @@ word n = n.word
 
 pub returns : goal.returns
 returns c =
-    let e = c in
     ap swapped_of c.four_in.ensures
-    ∙ four_word _ _ (λ k. omega (arith, e.shared_slice_known-1.given k))
-    ∙ sym (ap word (number_at_lem _ _ _ (sym e.lacks_top.ensures ∙ e.if-lacks_top.false)))
+    ∙ four_word _ _ (λ k. omega (arith, c.shared_slice_known-1.given k))
+    ∙ sym (ap word (number_at_lem _ _ _ (sym c.lacks_top.ensures ∙ c.if-lacks_top.false)))
 
 pub returns-then-lacks_top : goal.returns-then-lacks_top
 returns-then-lacks_top c = sym (ap word (none_at _ _ _ (sym c.lacks_top.ensures ∙ c.if-lacks_top.true)))

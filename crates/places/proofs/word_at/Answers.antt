@@ -11,11 +11,10 @@ word n = n.word
 
 pub returns : goal.returns
 returns c =
-    let e = c in
     c.swapped.ensures
     ∙ ap swapped_of c.four_in.ensures
-    ∙ four_word _ _ (λ k. omega (arith, e.shared_slice_known-1.given k))
-    ∙ sym (ap word (number_at_lem _ _ _ (sym e.lacks.ensures ∙ e.if-lacks.false)))
+    ∙ four_word _ _ (λ k. omega (arith, c.shared_slice_known-1.given k))
+    ∙ sym (ap word (number_at_lem _ _ _ (sym c.lacks.ensures ∙ c.if-lacks.false)))
 
 pub returns-then-lacks : goal.returns-then-lacks
 returns-then-lacks c = sym (ap word (none_at _ _ _ (sym c.lacks.ensures ∙ c.if-lacks.true)))

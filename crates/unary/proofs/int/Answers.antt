@@ -26,7 +26,7 @@ formed c = sym c.malformed_at.ensures ∙ c.if-malformed_at.false
 
 pub returns-then-lacks_at : goal.returns-then-lacks_at
 unfolding row_of
-returns-then-lacks_at c = let t = c in one_lacking Shipped _ _ 39 f refl (sym t.lacks_at.ensures ∙ t.if-lacks_at.true) _ c.refusal.ensures
+returns-then-lacks_at c = one_lacking Shipped _ _ 39 f refl (sym c.lacks_at.ensures ∙ c.if-lacks_at.true) _ c.refusal.ensures
 
 pub returns-then-malformed_at : goal.returns-then-malformed_at
 unfolding row_of
@@ -35,14 +35,12 @@ returns-then-malformed_at c = one_malformed Shipped _ _ 39 f refl (there (goal.a
 pub returns-then-b1-ne0 : goal.returns-then-b1-ne0
 unfolding row_of
 returns-then-b1-ne0 c =
-    let p = c in
-    one_put Shipped _ _ 39 f refl (there (goal.at.returns-then-b1-ne0 c).Else-lacks_at) c.b1_at-b1.ensures c.word_at-word.ensures (formed (goal.at.returns-then-b1-ne0 c).Else-malformed_at) p.int-n.ensures p.put_at.ensures
+    one_put Shipped _ _ 39 f refl (there (goal.at.returns-then-b1-ne0 c).Else-lacks_at) c.b1_at-b1.ensures c.word_at-word.ensures (formed (goal.at.returns-then-b1-ne0 c).Else-malformed_at) c.int-n.ensures c.put_at.ensures
 
 pub returns-then-word-ne16711680 : goal.returns-then-word-ne16711680
 unfolding row_of
 returns-then-word-ne16711680 c =
-    let w = c in
-    let is = ap₂ number w.b1_at-b1.ensures w.word_at-word.ensures in
+    let is = ap₂ number c.b1_at-b1.ensures c.word_at-word.ensures in
     let m = formed (goal.at.returns-then-word-ne16711680 c).Else-malformed_at in
     one_kept Shipped _ _ 39 f refl (there (goal.at.returns-then-word-ne16711680 c).Else-lacks_at) (λ k. omega (arith, c.slice_known-1.given k)) m
     (subst (λ (x : Number). int_of Shipped x ≡ Some x) is
@@ -51,5 +49,4 @@ returns-then-word-ne16711680 c =
 pub returns : goal.returns
 unfolding row_of
 returns c =
-    let p = c in
-    one_put Shipped _ _ 39 f refl (there (goal.at.returns c).Else-lacks_at) c.b1_at-b1.ensures c.word_at-word.ensures (formed (goal.at.returns c).Else-malformed_at) (int_of_odd Shipped _ (record { b1_below = omega arith; word_below = omega arith }) (omega arith) (omega arith)) p.put_at-2.ensures
+    one_put Shipped _ _ 39 f refl (there (goal.at.returns c).Else-lacks_at) c.b1_at-b1.ensures c.word_at-word.ensures (formed (goal.at.returns c).Else-malformed_at) (int_of_odd Shipped _ (record { b1_below = omega arith; word_below = omega arith }) (omega arith) (omega arith)) c.put_at-2.ensures

@@ -29,7 +29,7 @@ short c = ap₂ number (sym c.if-b1-ne0.false ∙ c.b1_at-b1.ensures) c.word_at-
 
 pub returns-then-lacks_at : goal.returns-then-lacks_at
 unfolding row_of
-returns-then-lacks_at c = let t = c in one_lacking Shipped _ _ 27 f refl (sym t.lacks_at.ensures ∙ t.if-lacks_at.true) _ c.refusal.ensures
+returns-then-lacks_at c = one_lacking Shipped _ _ 27 f refl (sym c.lacks_at.ensures ∙ c.if-lacks_at.true) _ c.refusal.ensures
 
 pub returns-then-malformed_at : goal.returns-then-malformed_at
 unfolding row_of
@@ -38,24 +38,18 @@ returns-then-malformed_at c = one_malformed Shipped _ _ 27 f refl (there (goal.a
 pub returns-then-b1-ne0 : goal.returns-then-b1-ne0
 unfolding row_of
 returns-then-b1-ne0 c =
-    let p = c in
-    one_put Shipped _ _ 27 f refl (there (goal.at.returns-then-b1-ne0 c).Else-lacks_at) c.b1_at-b1.ensures c.word_at-word.ensures (formed (goal.at.returns-then-b1-ne0 c).Else-malformed_at) (ap Some (negate_full _ c.if-b1-ne0.true ∙ ap (number _) refl)) p.put_at.ensures
+    one_put Shipped _ _ 27 f refl (there (goal.at.returns-then-b1-ne0 c).Else-lacks_at) c.b1_at-b1.ensures c.word_at-word.ensures (formed (goal.at.returns-then-b1-ne0 c).Else-malformed_at) (ap Some (negate_full _ c.if-b1-ne0.true ∙ ap (number _) refl)) c.put_at.ensures
 
 pub returns-then-four-eq0 : goal.returns-then-four-eq0
 unfolding row_of
 returns-then-four-eq0 c =
-    let w = c in
     one_kept Shipped _ _ 27 f refl (there (goal.at.returns-then-four-eq0 c).Else-lacks_at) (λ k. omega (arith, c.slice_known-1.given k)) (formed (goal.at.returns-then-four-eq0 c).Else-malformed_at)
     (ap Some (subst (λ (x : Number). negated x ≡ x) (short (goal.at.returns-then-four-eq0 c).Else-b1-ne0) (negate_none _ _ (omega arith) c.swapped-four.ensures c.if-four-eq0.true)))
 
 pub returns : goal.returns
 unfolding row_of
 returns c =
-    let p = c in
-    let q = c in
-    let e = c in
-    let s = c in
     let m = formed (goal.at.returns c).Else-malformed_at in
-    one_put Shipped _ _ 27 f refl (there (goal.at.returns c).Else-lacks_at) (sym s.if-b1-ne0.false ∙ s.b1_at-b1.ensures) s.word_at-word.ensures m
-    (ap Some (negate_formed _ _ _ _ (omega arith) (ap malformed (short (goal.at.returns c).Else-b1-ne0) ∙ m) e.swapped-four.ensures e.if-four-eq0.false (omega arith) (omega arith) p.swapped.ensures))
-    p.put_at-2.ensures
+    one_put Shipped _ _ 27 f refl (there (goal.at.returns c).Else-lacks_at) (sym c.if-b1-ne0.false ∙ c.b1_at-b1.ensures) c.word_at-word.ensures m
+    (ap Some (negate_formed _ _ _ _ (omega arith) (ap malformed (short (goal.at.returns c).Else-b1-ne0) ∙ m) c.swapped-four.ensures c.if-four-eq0.false (omega arith) (omega arith) c.swapped.ensures))
+    c.put_at-2.ensures

@@ -30,7 +30,7 @@ unpacked c =
 
 pub returns-then-lacks_at : goal.returns-then-lacks_at
 unfolding row_of
-returns-then-lacks_at c = let t = c in one_lacking Shipped _ _ 61 f refl (sym t.lacks_at.ensures ∙ t.if-lacks_at.true) _ c.refusal.ensures
+returns-then-lacks_at c = one_lacking Shipped _ _ 61 f refl (sym c.lacks_at.ensures ∙ c.if-lacks_at.true) _ c.refusal.ensures
 
 pub returns-then-b1-ne0 : goal.returns-then-b1-ne0
 unfolding row_of

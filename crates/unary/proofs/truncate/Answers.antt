@@ -25,7 +25,7 @@ formed c = sym c.malformed_at.ensures ∙ c.if-malformed_at.false
 
 pub returns-then-lacks_at : goal.returns-then-lacks_at
 unfolding row_of
-returns-then-lacks_at c = let t = c in one_lacking Shipped _ _ 58 f refl (sym t.lacks_at.ensures ∙ t.if-lacks_at.true) _ c.refusal.ensures
+returns-then-lacks_at c = one_lacking Shipped _ _ 58 f refl (sym c.lacks_at.ensures ∙ c.if-lacks_at.true) _ c.refusal.ensures
 
 pub returns-then-malformed_at : goal.returns-then-malformed_at
 unfolding row_of
@@ -45,5 +45,4 @@ returns-then-b1-gt159 c =
 pub returns : goal.returns
 unfolding row_of
 returns c =
-    let p = c in
-    one_put Shipped _ _ 58 f refl (there (goal.at.returns c).Else-lacks_at) c.b1_at-b1.ensures c.word_at-word.ensures (formed (goal.at.returns c).Else-malformed_at) (ap Some (sym p.truncate-n.ensures)) p.put_at.ensures
+    one_put Shipped _ _ 58 f refl (there (goal.at.returns c).Else-lacks_at) c.b1_at-b1.ensures c.word_at-word.ensures (formed (goal.at.returns c).Else-malformed_at) (ap Some (sym c.truncate-n.ensures)) c.put_at.ensures

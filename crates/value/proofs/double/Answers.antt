@@ -87,12 +87,11 @@ of_word b e h = ap (λ (m : ℕ). double_of_full b m e) h
 pub returns-then-word-ge-TOP_BIT : goal.returns-then-word-ge-TOP_BIT
 unfolding of_int
 returns-then-word-ge-TOP_BIT c =
-    let n = c in
-    ap neg (product _ _ (omega arith) (omega arith)) ∙ neg_full _ _ ∙ of_word true n.args.x.b1 n.mantissa.ensures ∙ full _ 1 (omega arith) n.if-e-eq0.false
+    ap neg (product _ _ (omega arith) (omega arith)) ∙ neg_full _ _ ∙ of_word true c.args.x.b1 c.mantissa.ensures ∙ full _ 1 (omega arith) c.if-e-eq0.false
 
 pub returns : goal.returns
 unfolding of_int
-returns c = let n = c in product _ _ (omega arith) (omega arith) ∙ of_word false n.args.x.b1 n.mantissa.ensures ∙ full _ 0 (omega arith) n.if-e-eq0.false
+returns c = product _ _ (omega arith) (omega arith) ∙ of_word false c.args.x.b1 c.mantissa.ensures ∙ full _ 0 (omega arith) c.if-e-eq0.false
 
 pub float_from_bits-v : goal.float_from_bits-v
 float_from_bits-v c = no_nan _ (omega arith)

@@ -19,16 +19,14 @@ fits (suc v) h = record { sfits = omega arith }
 
 pub returns-then-word-lt-TOP_BIT : goal.returns-then-word-lt-TOP_BIT
 returns-then-word-lt-TOP_BIT c =
-    let d = c in
-    let plus : d.args.word / 2 ^ 31 ≡ 0 = omega arith in
-    ap (of_int binary64) (to_z_pos w32 {n = d.short_magnitude-v.result} (omega arith))
-    ∙ sym (double_whole _ (omega arith) refl ∙ ap₂ signed_double plus (sym d.short_magnitude-v.ensures))
+    let plus : c.args.word / 2 ^ 31 ≡ 0 = omega arith in
+    ap (of_int binary64) (to_z_pos w32 {n = c.short_magnitude-v.result} (omega arith))
+    ∙ sym (double_whole _ (omega arith) refl ∙ ap₂ signed_double plus (sym c.short_magnitude-v.ensures))
 
 pub returns : goal.returns
 returns c =
-    let d = c in
-    let less : d.args.word / 2 ^ 31 ≡ 1 = omega arith in
-    let v = d.short_magnitude-v.result in
+    let less : c.args.word / 2 ^ 31 ≡ 1 = omega arith in
+    let v = c.short_magnitude-v.result in
     ap (λ (z : ℤ). of_int binary64 (to_z w32 (of_z w32 z))) (minus v (omega arith))
     ∙ ap (of_int binary64) (to_z-of_z (fits v (omega arith)))
-    ∙ sym (double_whole _ (omega arith) refl ∙ ap₂ signed_double less (sym d.short_magnitude-v.ensures))
+    ∙ sym (double_whole _ (omega arith) refl ∙ ap₂ signed_double less (sym c.short_magnitude-v.ensures))

@@ -11,10 +11,5 @@ returns-then-b1_at-ne0-2 c = goes_first _ _ _ (λ e. c.if-b1_at-ne0-2.true (c.b1
 
 pub returns : goal.returns
 returns c =
-    let w = c in
-    let v = c in
-    let u = c in
-    let t = c in
-    let d = c in
-    says_short _ _ _ _ (sym d.b1_at-2.ensures ∙ t.if-b1_at-ne0-2.false) (sym d.b1_at.ensures ∙ d.if-b1_at-ne0.false)
-    (c.short_sum.ensures _ _ (sym t.b2_at.ensures) (sym u.low_at.ensures) (sym v.b2_at-2.ensures) (sym w.low_at-2.ensures))
+    says_short _ _ _ _ (sym c.b1_at-2.ensures ∙ c.if-b1_at-ne0-2.false) (sym c.b1_at.ensures ∙ c.if-b1_at-ne0.false)
+    (c.short_sum.ensures _ _ (sym c.b2_at.ensures) (sym c.low_at.ensures) (sym c.b2_at-2.ensures) (sym c.low_at-2.ensures))

@@ -29,34 +29,25 @@ returns-then-lacks_at c =
 pub returns-in-Malformed : goal.returns-in-Malformed
 unfolding Says
 returns-in-Malformed c =
-    let r = c in
-    let l = flips r.args.flip in
+    let l = flips c.args.flip in
     two_malformed Shipped _ _ _ (total_of l) (sum_line l) (there (goal.at.returns-in-Malformed c).Else-lacks_at) (said (goal.at.returns-in-Malformed c).After-short_route-short _ c.in-Malformed.is)
 
 pub returns-in-Stored : goal.returns-in-Stored
 unfolding Says
 returns-in-Stored c =
-    let p = c in
-    let k = c in
-    let r = c in
-    let i = c in
-    let s = i.args.stack.now in
-    let d = i.args.depth.now in
-    let l = flips i.args.flip in
-    let t = said (goal.at.returns-in-Stored c).After-short_route-short _ k.in-Stored.is in
+    let s = c.args.stack.now in
+    let d = c.args.depth.now in
+    let l = flips c.args.flip in
+    let t = said (goal.at.returns-in-Stored c).After-short_route-short _ c.in-Stored.is in
     let after : d - 1 ≡ d - 2 + 1 = omega (arith, has _ _ _ (there (goal.at.returns-in-Stored c).Else-lacks_at)) in
-    two_done Shipped _ _ _ (total_of l) (sum_line l) (there (goal.at.returns-in-Stored c).Else-lacks_at) t.0 _ t.1 ∙ ap₂ (λ (e : ℕ) (u : List ℕ). (outcome 0 e, u)) after (sym p.put_halves_at.ensures)
+    two_done Shipped _ _ _ (total_of l) (sum_line l) (there (goal.at.returns-in-Stored c).Else-lacks_at) t.0 _ t.1 ∙ ap₂ (λ (e : ℕ) (u : List ℕ). (outcome 0 e, u)) after (sym c.put_halves_at.ensures)
 
 pub returns-in-Exact : goal.returns-in-Exact
 unfolding Says
 returns-in-Exact c =
-    let p = c in
-    let k = c in
-    let r = c in
-    let i = c in
-    let l = flips i.args.flip in
-    let t = said (goal.at.returns-in-Exact c).After-short_route-short _ k.in-Exact.is in
-    two_stored Shipped _ _ _ (total_of l) (sum_line l) (there (goal.at.returns-in-Exact c).Else-lacks_at) t.0 _ _ _ (ap (stored_of i.args.stack.now i.args.depth.now) t.1 ∙ stored_as _ _ _ _ _ _ (refl, there (goal.at.returns-in-Exact c).Else-lacks_at, refl, refl) p.store.ensures)
+    let l = flips c.args.flip in
+    let t = said (goal.at.returns-in-Exact c).After-short_route-short _ c.in-Exact.is in
+    two_stored Shipped _ _ _ (total_of l) (sum_line l) (there (goal.at.returns-in-Exact c).Else-lacks_at) t.0 _ _ _ (ap (stored_of c.args.stack.now c.args.depth.now) t.1 ∙ stored_as _ _ _ _ _ _ (refl, there (goal.at.returns-in-Exact c).Else-lacks_at, refl, refl) c.store.ensures)
 
 pub overflow_sub-depth : goal.overflow_sub-depth
 overflow_sub-depth c = omega (arith, has _ _ _ (there (goal.at.overflow_sub-depth c).Else-lacks_at))

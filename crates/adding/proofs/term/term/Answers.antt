@@ -36,9 +36,9 @@ some c n s v e r at b m p q l j =
     told c n _ at
     (term_some f n b c.requires m s v (λ z. q (sym first ∙ z)) (ap (λ (y : Number). y.word) (sym p)) ∙ ap₂ (λ (i : ℤ) (k : ℕ). Some (term i k)) (sym x) first) l
 
-short_at : (c : After-word_at) → (let d = c in let a = d.args in
+short_at : (c : After-word_at) → (let a = c.args in
     number 0 c.word_at.result ≡ number_at a.stack.now a.depth a.above)
-short_at c = let d = c in ap₂ number (sym c.if-b1-ne0.false ∙ d.b1_at-b1.ensures) c.word_at.ensures
+short_at c = ap₂ number (sym c.if-b1-ne0.false ∙ c.b1_at-b1.ensures) c.word_at.ensures
 
 pub returns-then-b1-ne0 : goal.returns-then-b1-ne0
 unfolding Told

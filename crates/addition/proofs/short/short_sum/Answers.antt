@@ -28,19 +28,17 @@ summed c x y i j p q =
     ∙ ap₂ (λ (b g : ℕ). added_halves (x / 2 ^ 24) (low (number 0 x)) (second_halves a.less b g)) (sym p) (sym q)
 
 -- a sum that is not short
-large : (c : Else-sum-lt2) (x y : ℕ) → (let t = c in let a = t.args in
+large : (c : Else-sum-lt2) (x y : ℕ) → (let a = c.args in
     x / 2 ^ 24 ≡ a.b → low (number 0 x) ≡ a.first → y / 2 ^ 24 ≡ a.c → low (number 0 y) ≡ a.other
     → 2 ≤ ((added_halves (x / 2 ^ 24) (low (number 0 x)) (second_halves a.less (y / 2 ^ 24) (low (number 0 y)))).byte + 1) % 256)
 large c x y i j p q =
-    let t = c in
-    let more : 2 ≤ (t.total-sum.result.byte + 1) % 256 = omega (arith, c.if-sum-lt2.false) in
+    let more : 2 ≤ (c.total-sum.result.byte + 1) % 256 = omega (arith, c.if-sum-lt2.false) in
     subst (λ (h : Halves). 2 ≤ (h.byte + 1) % 256) (summed c.before.before x y i j p q) more
 
-beyond : (c : Else-sum-lt2) (x y : ℕ) → (let t = c in let a = t.args in
+beyond : (c : Else-sum-lt2) (x y : ℕ) → (let a = c.args in
     x / 2 ^ 24 ≡ a.b → low (number 0 x) ≡ a.first → y / 2 ^ 24 ≡ a.c → low (number 0 y) ≡ a.other → Says a.less (number 0 x) (number 0 y) Beyond)
 beyond c x y i j p q =
-    let t = c in
-    answer_beyond t.args.less x y (omega arith) (omega arith) (formed c.before.before.before x y i p) (large c x y i j p q)
+    answer_beyond c.args.less x y (omega arith) (omega arith) (formed c.before.before.before x y i p) (large c x y i j p q)
 
 pub returns-then-b-c-gt1 : goal.returns-then-b-c-gt1
 returns-then-b-c-gt1 c x y i j p q =
@@ -48,23 +46,18 @@ returns-then-b-c-gt1 c x y i j p q =
 
 pub returns-then-sum-lt2 : goal.returns-then-sum-lt2
 returns-then-sum-lt2 c x y i j p q =
-    let t = c in
-    let less = t.args.less in
+    let less = c.args.less in
     let same = summed c.before.before x y i j p q in
-    let small : (t.total-sum.result.byte + 1) % 256 < 2 = omega (arith, c.if-sum-lt2.true) in
+    let small : (c.total-sum.result.byte + 1) % 256 < 2 = omega (arith, c.if-sum-lt2.true) in
     subst (λ (h : Halves). Says less (number 0 x) (number 0 y) (Stored h.byte h.low)) (sym same)
     (answer_stored less x y (omega arith) (omega arith) (formed c.before.before.before x y i p) (subst (λ (h : Halves). (h.byte + 1) % 256 < 2) same small))
 
 pub returns : goal.returns
 returns c x y i j p q =
-    let n = c in
-    let m = c in
-    let k = c in
-    let t = c in
-    let less = t.args.less in
+    let less = c.args.less in
     let same = summed c.before.before.before.before.before x y i j p q in
     subst (λ (w : ℕ). Says less (number 0 x) (number 0 y) (Exact w)) (sym (c.seventeen.ensures ∙ ap (λ (h : Halves). seventeen_of h.byte h.low) same))
-    (answer_exact less x y (omega arith) (omega arith) (formed c.before.before.before.before.before.before x y i p) (large c.before.before.before x y i j p q) (omega (arith, m.if-first-eq0.false)) (omega (arith, n.if-other-eq0.false)))
+    (answer_exact less x y (omega arith) (omega arith) (formed c.before.before.before.before.before.before x y i p) (large c.before.before.before x y i j p q) (omega (arith, c.if-first-eq0.false)) (omega (arith, c.if-other-eq0.false)))
 
 pub returns-then-first-eq0 : goal.returns-then-first-eq0
 returns-then-first-eq0 c = beyond c.before

@@ -36,29 +36,23 @@ picked b r p q y z e f g = held _ _ (e ∙ ap₂ (cond b) f g) (omega (arith, ei
 unfoldable late : Start → Bool
 late c = ltb (c.args.e % 256) (c.args.f % 256)
 
-large : (c : After-select_unpredictable) → (let i = c in to_z w64 (of_z w64 c.select_unpredictable.result) ≡ cond (late c.before.before.before.before) (cut i.args.y) (cut i.args.x))
+large : (c : After-select_unpredictable) → (to_z w64 (of_z w64 c.select_unpredictable.result) ≡ cond (late c.before.before.before.before) (cut c.args.y) (cut c.args.x))
 unfolding late
 large c =
-    let d = c in
-    let i = c in
-    picked (late c.before.before.before.before) _ _ _ i.args.y i.args.x c.select_unpredictable.ensures (y c.before.before) (x c.before.before)
+    picked (late c.before.before.before.before) _ _ _ c.args.y c.args.x c.select_unpredictable.ensures (y c.before.before) (x c.before.before)
 
-small : (c : After-select_unpredictable-2) → (let i = c in to_z w64 (of_z w64 c.select_unpredictable-2.result) ≡ cond (late c.before.before.before.before.before) (cut i.args.x) (cut i.args.y))
+small : (c : After-select_unpredictable-2) → (to_z w64 (of_z w64 c.select_unpredictable-2.result) ≡ cond (late c.before.before.before.before.before) (cut c.args.x) (cut c.args.y))
 unfolding late
 small c =
-    let d = c in
-    let i = c in
-    picked (late c.before.before.before.before.before) _ _ _ i.args.x i.args.y c.select_unpredictable-2.ensures (x c.before.before.before) (y c.before.before.before)
+    picked (late c.before.before.before.before.before) _ _ _ c.args.x c.args.y c.select_unpredictable-2.ensures (x c.before.before.before) (y c.before.before.before)
 
 pub returns : goal.returns
 unfolding late
 returns c =
-    let d = c in
-    let i = c in
-    let e = i.args.e % 256 in
-    let f = i.args.f % 256 in
-    let n = d.max-most.result in
+    let e = c.args.e % 256 in
+    let f = c.args.f % 256 in
+    let n = c.max-most.result in
     c.summed.ensures
     ∙ ap₂ (λ (j k : ℤ). ended_sum (j +ℤ aligned (2 * n - (e + f)) k) n) (large c.before.before) (small c.before)
-    ∙ ap (λ (m : ℕ). ended_sum (cond (late c.before.before.before.before.before.before) (cut i.args.y) (cut i.args.x) +ℤ aligned (2 * m - (e + f)) (cond (late c.before.before.before.before.before.before) (cut i.args.x) (cut i.args.y))) m) (d.max-most.ensures ∙ max_comm f e)
-    ∙ sym (larger_chosen (cut i.args.x) (cut i.args.y) e f)
+    ∙ ap (λ (m : ℕ). ended_sum (cond (late c.before.before.before.before.before.before) (cut c.args.y) (cut c.args.x) +ℤ aligned (2 * m - (e + f)) (cond (late c.before.before.before.before.before.before) (cut c.args.x) (cut c.args.y))) m) (c.max-most.ensures ∙ max_comm f e)
+    ∙ sym (larger_chosen (cut c.args.x) (cut c.args.y) e f)

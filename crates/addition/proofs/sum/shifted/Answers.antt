@@ -27,5 +27,5 @@ returns-then-places-gt32 c = sym (moved_away _ _ c.if-places-gt32.true)
 
 pub returns : goal.returns
 returns c =
-    let s = c in let x = s.args.x in let k = s.args.places in
-    held _ _ (ap (λ (y : ℤ). shr_z y 2) (held _ _ (more x k s.ranges.x s.requires) (omega (arith, one x k s.ranges.x s.requires))) ∙ twice_moved x k (omega arith)) (omega (arith, aligned_lt k x s.requires))
+    let x = c.args.x in let k = c.args.places in
+    held _ _ (ap (λ (y : ℤ). shr_z y 2) (held _ _ (more x k c.ranges.x c.requires) (omega (arith, one x k c.ranges.x c.requires))) ∙ twice_moved x k (omega arith)) (omega (arith, aligned_lt k x c.requires))

@@ -19,10 +19,9 @@ small c =
 added : (c : After-shifted) → to_z w64 (of_z w64 c.args.x) +ℤ to_z w64 (of_z w64 c.shifted.result) ≡ sum c
 unfolding sum
 added c =
-    let s = c in
-    let a = s.args in
-    ap₂ ◌+ℤ◌ (to_z-of_z s.ranges.x)
-    (held _ _ (c.shifted.ensures ∙ ap (aligned a.places) (to_z-of_z s.ranges.y)) (omega (arith, aligned_lt a.places a.y s.requires.1)))
+    let a = c.args in
+    ap₂ ◌+ℤ◌ (to_z-of_z c.ranges.x)
+    (held _ _ (c.shifted.ensures ∙ ap (aligned a.places) (to_z-of_z c.ranges.y)) (omega (arith, aligned_lt a.places a.y c.requires.1)))
 
 word : (c : After-shifted) → to_z w64 (of_z w64 (to_z w64 (of_z w64 c.args.x) +ℤ to_z w64 (of_z w64 c.shifted.result))) ≡ sum c
 word c = held _ _ (added c) (omega (arith, small c))

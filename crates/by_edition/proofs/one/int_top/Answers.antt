@@ -15,7 +15,7 @@ module _ (s : List ℕ) (d : ℕ) where
   kept h = sym (simp (eq-eqb _ _ h))
 
 pub returns-then-word_at : goal.returns-then-word_at
-returns-then-word_at c = let p = c in let t = c in p.put_at.ensures ∙ lowered _ _ (λ e. t.if-word_at.true (t.word_at.ensures ∙ e))
+returns-then-word_at c = c.put_at.ensures ∙ lowered _ _ (λ e. c.if-word_at.true (c.word_at.ensures ∙ e))
 
 pub returns-else-word_at : goal.returns-else-word_at
 returns-else-word_at c = kept _ _ (sym c.word_at.ensures ∙ c.if-word_at.false)

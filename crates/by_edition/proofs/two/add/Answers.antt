@@ -12,8 +12,7 @@ use Rattle.by_edition.proofs.two.add.Given.{Over as Given}
 follows : (g : Given) (c : After-add-report g) → Follows _ _ 15 _ _ _ c.add-report.ensures g.E.Rom.EDITION
 unfolding row_of
 follows g c =
-    let e = c in
-    pair_follows _ _ 15 sum_of refl _ _ _ c.add-report.ensures _ (sym e.odd_pair.ensures ∙ e.if-odd_pair.false) (sum_mended _ _)
+    pair_follows _ _ 15 sum_of refl _ _ _ c.add-report.ensures _ (sym c.odd_pair.ensures ∙ c.if-odd_pair.false) (sum_mended _ _)
 
 pub returns-then-odd_pair : goal.returns-then-odd_pair
 unfolding row_of

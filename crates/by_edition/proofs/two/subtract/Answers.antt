@@ -12,8 +12,7 @@ use Rattle.by_edition.proofs.two.subtract.Given.{Over as Given}
 follows : (g : Given) (c : After-subtract-report g) → Follows _ _ 3 _ _ _ c.subtract-report.ensures g.E.Rom.EDITION
 unfolding row_of
 follows g c =
-    let e = c in
-    pair_follows _ _ 3 difference_of refl _ _ _ c.subtract-report.ensures _ (sym e.odd_pair.ensures ∙ e.if-odd_pair.false) (difference_mended _ _)
+    pair_follows _ _ 3 difference_of refl _ _ _ c.subtract-report.ensures _ (sym c.odd_pair.ensures ∙ c.if-odd_pair.false) (difference_mended _ _)
 
 pub returns-then-odd_pair : goal.returns-then-odd_pair
 unfolding row_of

@@ -7,15 +7,13 @@ use Rattle.display.proofs.showing.cell.Goals as goal
 
 pub returns-then-lacks : goal.returns-then-lacks
 returns-then-lacks c =
-    let t = c in
-    c.nothing.ensures ∙ sym (cell_blank _ _ _ t.if-report-ne0.false (sym t.lacks.ensures ∙ t.if-lacks.true))
+    c.nothing.ensures ∙ sym (cell_blank _ _ _ c.if-report-ne0.false (sym c.lacks.ensures ∙ c.if-lacks.true))
 
 pub returns : goal.returns
 returns c =
-    let e = c in
     c.show.ensures
     ∙ ap number_shown (ap₂ number c.b1_at.ensures c.word_at.ensures)
-    ∙ sym (cell_shown _ _ _ e.if-report-ne0.false (sym e.lacks.ensures ∙ e.if-lacks.false))
+    ∙ sym (cell_shown _ _ _ c.if-report-ne0.false (sym c.lacks.ensures ∙ c.if-lacks.false))
 
 pub returns-then-report-ne0 : goal.returns-then-report-ne0
 returns-then-report-ne0 c = sym (cell_refused _ _ _ c.if-report-ne0.true)

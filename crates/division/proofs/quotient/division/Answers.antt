@@ -10,12 +10,10 @@ use Rattle.division.proofs.quotient.division.Goals as goal
 
 pub returns : goal.returns
 returns c =
-    let g = c in
-    let d = c in
-    let i = d.args in
+    let i = c.args in
     let x = full_of (i.s / 2 ^ 31) (i.e % 256) i.m in
     let y = full_of (i.t / 2 ^ 31) (i.f % 256) i.n in
-    let q = d.digits-q.result in
+    let q = c.digits-q.result in
     let w = q / 2 ^ 32 in
     let sx : i.s / 2 ^ 31 ≡ sign x = omega arith in
     let sy : i.t / 2 ^ 31 ≡ sign y = omega arith in
@@ -26,8 +24,8 @@ returns c =
     c.close.ensures
     ∙ ap₂ (λ (k z : ℕ). closed k (loose ((q + w) / 2 ^ w) (i.e % 256 + 128 + 256 - i.f % 256 + w) (z / 2 ^ w)))
     (signs_differ i.s i.t (omega arith) (omega arith) ∙ ap₂ (λ (a b : ℕ). (a + b) % 2) sx sy)
-    (g.next_digit.ensures.0 ∙ ap₂ (λ (a b : ℕ). digit34 i.edition b (rounds33 a b)) mx my)
-    ∙ sym (quotient_closed i.edition x y fx fy (d.digits-q.ensures.0 ∙ ap₂ (λ (a b : ℕ). (rounds33 a b).digits) mx my) w refl (omega arith))
+    (c.next_digit.ensures.0 ∙ ap₂ (λ (a b : ℕ). digit34 i.edition b (rounds33 a b)) mx my)
+    ∙ sym (quotient_closed i.edition x y fx fy (c.digits-q.ensures.0 ∙ ap₂ (λ (a b : ℕ). (rounds33 a b).digits) mx my) w refl (omega arith))
 
 pub returns-then-second-eq0 : goal.returns-then-second-eq0
 returns-then-second-eq0 c = sym (quotient_by_zero _ _ _ c.if-second-eq0.true)

@@ -16,7 +16,7 @@ z_below c = zeros_below c.args.t _ (omega arith) c.leading_zeros-places.ensures 
 -- what is shifted has room for what is taken in
 fits : (c : After-taken_in) → (let i = c.args in let z = c.leading_zeros-places.result in
     (i.t * 2 ^ z % 2 ^ 32 + c.taken_in.result ≡ i.t * 2 ^ z + taken_in z i.digits) × (i.t * 2 ^ z + taken_in z i.digits < 2 ^ 32))
-fits c = let k = c in shift_fits _ _ _ _ (omega arith) k.if-t-eq0.false k.leading_zeros-places.ensures c.taken_in.ensures
+fits c = shift_fits _ _ _ _ (omega arith) c.if-t-eq0.false c.leading_zeros-places.ensures c.taken_in.ensures
 
 pub returns-then-t-ge-TOP_BIT : goal.returns-then-t-ge-TOP_BIT
 returns-then-t-ge-TOP_BIT c = c.close.ensures ∙ sym (ended_set _ _ _ _ (omega arith))
@@ -47,10 +47,8 @@ overflow_shr-digits c = omega (arith, z_below c.before)
 
 pub returns : goal.returns
 returns c =
-    let k = c in
-    let l = c in
-    let i = l.args in
-    let z = l.leading_zeros-places.result in
+    let i = c.args in
+    let z = c.leading_zeros-places.result in
     c.close-2.ensures
     ∙ ap (λ (m : ℕ). closed i.sign (loose m (i.e - z) (i.digits / 2 ^ z))) (fits c.before).0
-    ∙ sym (ended_shifted i.sign i.t i.e i.digits z (omega arith) l.if-t-eq0.false l.leading_zeros-places.ensures)
+    ∙ sym (ended_shifted i.sign i.t i.e i.digits z (omega arith) c.if-t-eq0.false c.leading_zeros-places.ensures)

@@ -9,15 +9,12 @@ use Rattle.moving.proofs.literal.exchange.Goals as goal
 
 pub returns : goal.returns
 returns c ed =
-    let p = c in
-    let e = c in
-    let i = c in
     let top = ap₂ number c.b1_at-top1.ensures c.word_at-top.ensures in
     let lower = ap₂ number c.b1_at-lower1.ensures c.word_at-lower.ensures in
-    exchange_done ed _ _ (λ k. omega (arith, c.slice_known-1.given k)) (sym e.lacks_at.ensures ∙ e.if-lacks_at.false)
-    ∙ ap (λ (t : List ℕ). (outcome 0 i.args.depth.now, t))
+    exchange_done ed _ _ (λ k. omega (arith, c.slice_known-1.given k)) (sym c.lacks_at.ensures ∙ c.if-lacks_at.false)
+    ∙ ap (λ (t : List ℕ). (outcome 0 c.args.depth.now, t))
     (sym (c.put_at-2.ensures
-    ∙ ap₂ (λ (t : List ℕ) (n : Number). put_at t i.args.depth.now 0 n) (p.put_at.ensures ∙ ap (put_at i.args.stack.now i.args.depth.now 1) top) lower))
+    ∙ ap₂ (λ (t : List ℕ) (n : Number). put_at t c.args.depth.now 0 n) (c.put_at.ensures ∙ ap (put_at c.args.stack.now c.args.depth.now 1) top) lower))
 
 pub returns-then-lacks_at : goal.returns-then-lacks_at
-returns-then-lacks_at c ed = let t = c in exchange_lacking ed _ _ (sym t.lacks_at.ensures ∙ t.if-lacks_at.true) _ c.refusal.ensures
+returns-then-lacks_at c ed = exchange_lacking ed _ _ (sym c.lacks_at.ensures ∙ c.if-lacks_at.true) _ c.refusal.ensures

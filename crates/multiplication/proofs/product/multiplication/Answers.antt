@@ -41,14 +41,12 @@ module _ (c : Else-p-eq0) where
 
 pub returns-then-before-le-BIAS : goal.returns-then-before-le-BIAS
 returns-then-before-le-BIAS c =
-    let d = c in
-    c.close.ensures ∙ sym (at_some _ (p c.before.before) _ d.if-p-eq0.false (z c.before.before) refl ∙ ended_low _ _ 0 (e c.before.before) (omega arith)) ∙ whole c.before.before.before
+    c.close.ensures ∙ sym (at_some _ (p c.before.before) _ c.if-p-eq0.false (z c.before.before) refl ∙ ended_low _ _ 0 (e c.before.before) (omega arith)) ∙ whole c.before.before.before
 
 pub returns : goal.returns
 returns c =
-    let d = c in
     c.close-2.ensures
-    ∙ sym (at_some _ (p c.before.before) _ d.if-p-eq0.false (z c.before.before) refl ∙ ap (λ (k : ℕ). ended_product (d.args.sign / 2 ^ 31) k (e c.before.before)) (sym (rounded c.before.before)) ∙ ended_high _ (m c.before.before) (e c.before.before) (omega arith) (small c.before.before))
+    ∙ sym (at_some _ (p c.before.before) _ c.if-p-eq0.false (z c.before.before) refl ∙ ap (λ (k : ℕ). ended_product (c.args.sign / 2 ^ 31) k (e c.before.before)) (sym (rounded c.before.before)) ∙ ended_high _ (m c.before.before) (e c.before.before) (omega arith) (small c.before.before))
     ∙ whole c.before.before.before
 
 pub returns-then-p-eq0 : goal.returns-then-p-eq0

@@ -15,8 +15,5 @@ y i = number_at i.args.stack.now i.args.depth 0
 
 pub returns : goal.returns
 returns c =
-    let w = c in
-    let b = c in
-    let i = c in
     factored_swapped (x c.before.before.before.before.before.before.before) (y c.before.before.before.before.before.before.before) c.short_by_full.result
-    (subst (λ (n : Number). Factored n (x c.before.before.before.before.before.before.before) c.short_by_full.result) (ap₂ number b.b1_at-c1.ensures w.word_at-other.ensures) c.short_by_full.ensures)
+    (subst (λ (n : Number). Factored n (x c.before.before.before.before.before.before.before) c.short_by_full.result) (ap₂ number c.b1_at-c1.ensures c.word_at-other.ensures) c.short_by_full.ensures)

@@ -7,4 +7,4 @@ use Rattle.multiplying.specs.Product.{product_line}
 use Rattle.multiplying.proofs.product.multiply.Goals as goal
 
 pub returns-then-lacks_at : goal.returns-then-lacks_at
-returns-then-lacks_at c = let t = c in two_lacking Shipped _ _ _ (λ ed. product_of) product_line (sym t.lacks_at.ensures ∙ t.if-lacks_at.true) _ c.refusal.ensures
+returns-then-lacks_at c = two_lacking Shipped _ _ _ (λ ed. product_of) product_line (sym c.lacks_at.ensures ∙ c.if-lacks_at.true) _ c.refusal.ensures

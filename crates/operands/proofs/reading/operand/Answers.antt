@@ -8,12 +8,10 @@ use Rattle.operands.proofs.reading.operand.Goals as goal
 
 pub returns-then-b1-ne0 : goal.returns-then-b1-ne0
 returns-then-b1-ne0 c =
-    let d = c in
-    let b = d.b1_at-b1.result in
+    let b = c.b1_at-b1.result in
     let w = c.word_at-word.result in
-    subst (λ (x : Number). Unpacked x (operand w w b)) (ap₂ number d.b1_at-b1.ensures c.word_at-word.ensures) (full_operand (number b w) (omega arith) d.if-b1-ne0.true)
+    subst (λ (x : Number). Unpacked x (operand w w b)) (ap₂ number c.b1_at-b1.ensures c.word_at-word.ensures) (full_operand (number b w) (omega arith) c.if-b1-ne0.true)
 
 pub returns : goal.returns
 returns c =
-    let e = c in
-    unpacks_short _ _ (sym e.b1_at-b1.ensures ∙ e.if-b1-ne0.false) (c.operand_of.ensures _ (sym c.b2_at.ensures ∙ sym (mod-eq_of_lt (omega arith))) (sym c.low_at.ensures))
+    unpacks_short _ _ (sym c.b1_at-b1.ensures ∙ c.if-b1-ne0.false) (c.operand_of.ensures _ (sym c.b2_at.ensures ∙ sym (mod-eq_of_lt (omega arith))) (sym c.low_at.ensures))

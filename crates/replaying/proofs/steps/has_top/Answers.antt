@@ -5,24 +5,19 @@ use Rattle.replaying.proofs.steps.has_top.Goals as goal
 
 pub returns-then-top_b1 : goal.returns-then-top_b1
 returns-then-top_b1 c =
-    let e = c in
-    let t = c in
-    let i = t.args in
-    top_b1 i.bytes.now i.stack.now i.depth t.top_in-five.ensures e.if-five-ne5.false
-    (λ k. omega (arith, t.shared_slice_known-1.given k))
-    (λ k. omega (arith, t.shared_slice_known-2-1.given k))
+    let i = c.args in
+    top_b1 i.bytes.now i.stack.now i.depth c.top_in-five.ensures c.if-five-ne5.false
+    (λ k. omega (arith, c.shared_slice_known-1.given k))
+    (λ k. omega (arith, c.shared_slice_known-2-1.given k))
     (λ z. c.if-top_b1.true (c.top_b1.ensures ∙ z ∙ sym c.top_b1-2.ensures))
 
 pub returns : goal.returns
 returns c =
-    let w = c in
-    let e = c in
-    let t = c in
-    let i = t.args in
-    top_four i.bytes.now i.stack.now i.depth t.top_in-five.ensures e.if-five-ne5.false
-    (λ k. omega (arith, t.shared_slice_known-1.given k))
-    (λ k. omega (arith, t.shared_slice_known-2-1.given k))
-    (sym w.top_b1.ensures ∙ w.if-top_b1.false ∙ w.top_b1-2.ensures)
+    let i = c.args in
+    top_four i.bytes.now i.stack.now i.depth c.top_in-five.ensures c.if-five-ne5.false
+    (λ k. omega (arith, c.shared_slice_known-1.given k))
+    (λ k. omega (arith, c.shared_slice_known-2-1.given k))
+    (sym c.top_b1.ensures ∙ c.if-top_b1.false ∙ c.top_b1-2.ensures)
     c.top_four.result c.top_four-2.result (omega arith) (omega arith) c.top_four.ensures c.top_four-2.ensures
 
 pub returns-then-five-ne5 : goal.returns-then-five-ne5

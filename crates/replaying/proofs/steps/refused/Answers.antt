@@ -7,28 +7,15 @@ use Rattle.replaying.proofs.steps.refused.Goals as goal
 
 pub returns-then-has_top : goal.returns-then-has_top
 returns-then-has_top c =
-    let t = c in
-    let e = c in
-    let h = c in
-    let o = c in
-    let i = c in
-    holds _ _ _ _ _ _ (step_literal _ _ _ (λ z. i.requires.1 (i.requires.0 ∙ z)) ∙ ap (operate_of _ _ _) (sym i.requires.0) ∙ o.operate_in_place_in-report.ensures) false
-    (ap not (sym c.if-has_top.true) ∙ literal_differs _ _ _ _ h.has_head.ensures e.if-has_head.true (λ z. i.requires.1 (i.requires.0 ∙ z)) t.has_top.ensures)
+    holds _ _ _ _ _ _ (step_literal _ _ _ (λ z. c.requires.1 (c.requires.0 ∙ z)) ∙ ap (operate_of _ _ _) (sym c.requires.0) ∙ c.operate_in_place_in-report.ensures) false
+    (ap not (sym c.if-has_top.true) ∙ literal_differs _ _ _ _ c.has_head.ensures c.if-has_head.true (λ z. c.requires.1 (c.requires.0 ∙ z)) c.has_top.ensures)
 
 pub returns-then-has_head : goal.returns-then-has_head
 returns-then-has_head c =
-    let t = c in
-    let e = c in
-    let h = c in
-    let o = c in
-    let i = c in
-    holds _ _ _ _ _ _ (step_literal _ _ _ (λ z. i.requires.1 (i.requires.0 ∙ z)) ∙ ap (operate_of _ _ _) (sym i.requires.0) ∙ o.operate_in_place_in-report.ensures) true
-    (ap not (sym c.if-has_top.false) ∙ literal_differs _ _ _ _ h.has_head.ensures e.if-has_head.true (λ z. i.requires.1 (i.requires.0 ∙ z)) t.has_top.ensures)
+    holds _ _ _ _ _ _ (step_literal _ _ _ (λ z. c.requires.1 (c.requires.0 ∙ z)) ∙ ap (operate_of _ _ _) (sym c.requires.0) ∙ c.operate_in_place_in-report.ensures) true
+    (ap not (sym c.if-has_top.false) ∙ literal_differs _ _ _ _ c.has_head.ensures c.if-has_head.true (λ z. c.requires.1 (c.requires.0 ∙ z)) c.has_top.ensures)
 
 pub returns : goal.returns
 returns c =
-    let h = c in
-    let o = c in
-    let i = c in
-    holds _ _ _ _ _ _ (step_literal _ _ _ (λ z. i.requires.1 (i.requires.0 ∙ z)) ∙ ap (operate_of _ _ _) (sym i.requires.0) ∙ o.operate_in_place_in-report.ensures) true
-    (head_differs_lem _ _ _ _ h.has_head.ensures c.if-has_head.false)
+    holds _ _ _ _ _ _ (step_literal _ _ _ (λ z. c.requires.1 (c.requires.0 ∙ z)) ∙ ap (operate_of _ _ _) (sym c.requires.0) ∙ c.operate_in_place_in-report.ensures) true
+    (head_differs_lem _ _ _ _ c.has_head.ensures c.if-has_head.false)

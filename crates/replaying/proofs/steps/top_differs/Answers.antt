@@ -7,4 +7,4 @@ pub returns-then-literal_in-eq0 : goal.returns-then-literal_in-eq0
 returns-then-literal_in-eq0 c = top_of_push _ _ _ (sym c.literal_in.ensures ∙ c.if-literal_in-eq0.true)
 
 pub returns : goal.returns
-returns c = let e = c in ap not c.has_top.ensures ∙ top_of_literal _ _ _ (λ z. e.if-literal_in-eq0.false (e.literal_in.ensures ∙ z))
+returns c = ap not c.has_top.ensures ∙ top_of_literal _ _ _ (λ z. c.if-literal_in-eq0.false (c.literal_in.ensures ∙ z))

@@ -23,10 +23,9 @@ returns-then-is_taken_65536 c =
 
 pub returns : goal.returns
 returns c =
-    let n = c in
-    let x = n.args.x in
+    let x = c.args.x in
     ap (number x.b1) (clearing_fits x.word (160 - x.b1) (omega arith))
-    ∙ sym (truncate_full Shipped x (omega arith) ∙ truncate_cleared Shipped x (omega arith) (sym n.is_taken_65536.ensures ∙ c.if-is_taken_65536.false) (omega arith))
+    ∙ sym (truncate_full Shipped x (omega arith) ∙ truncate_cleared Shipped x (omega arith) (sym c.is_taken_65536.ensures ∙ c.if-is_taken_65536.false) (omega arith))
 
 pub returns-then-e-eq0 : goal.returns-then-e-eq0
 returns-then-e-eq0 c = sym (truncate_not_full Shipped _ (omega arith))
