@@ -59,7 +59,8 @@ fn low_bits(x: i64) -> i64
 
 // Of two mantissas with their signs and their exponent bytes, each the low bits of what is handed over: the compiler knows that there is nothing above. The larger
 // comes first by choices and not by a jump, since which it is goes by the data. Twice its exponent byte less both is how far they are apart. An exponent byte is a word:
-// as a byte the compiler does not know that it stands in a whole register.
+// as a byte the compiler does not know that it stands in a whole register. The parts of the two go side by side: `adding` has each where it found it,
+// and a struct of them would be taken apart here at once.
 pub fn aligned_sum(x: i64, e: u32, y: i64, f: u32) -> Option<Number>
     ensures { result ≡ signed_sum (int_rem x (pos 4294967296)) (e % 256) (int_rem y (pos 4294967296)) (f % 256) }
 {

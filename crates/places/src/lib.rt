@@ -122,7 +122,7 @@ pub fn put_at(stack: &mut [u8], depth: usize, above: u8, b1: u8, word: u32)
     put_in(stack, depth - nth, Number { b1, word });
 }
 
-// A short number's sign byte and low half. b1 and b5 stay.
+// A short number's sign byte and low half, lowest byte first: as in `put_four`, the compiler stores them at once. b1 and b5 stay.
 pub fn put_halves_at(stack: &mut [u8], depth: usize, above: u8, byte: u8, h: u16)
     ensures { stack.new ≡ put_at stack.old depth above (stored_over (number_at stack.old depth above) (halves byte h)) }
 {

@@ -22,10 +22,7 @@ pub struct Answered {
 fn goes_on(terminal: bool, said: Result<Step, Fault>) -> bool
     ensures { result ≡ goes_on terminal said }
 {
-    match said {
-        Ok(_) => true,
-        Err(_) => terminal,
-    }
+    said.is_ok() || terminal
 }
 
 // The edition, the depth and whether steps may go on stay apart, as in `line_left`: a caller has them among other fields, and would take a struct apart.
