@@ -18,6 +18,8 @@ struct Entering<E> {
 }
 
 impl<E: Write> Follower for Entering<E> {
+    ghost going = { λ s. s.going };
+
     // After a line that can't be taken, what was read with it is passed over.
     fn follow_line(&mut self, line: &[u8]) {
         if !self.going {
