@@ -24,6 +24,7 @@ struct Answering<W, E> {
 impl<W: Write, E: Write> Follower for Answering<W, E> {
     ghost going = { λ s. s.going };
 
+    #[tactic(auto, unfolding(reply::specs::Following::line_left))]
     fn follow_line(&mut self, line: &[u8]) {
         let mut answer = [0u8; 64];
         let mut complaint = [0u8; 256];
