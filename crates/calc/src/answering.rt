@@ -1,7 +1,7 @@
-// A sheet that is answered: its steps are done on a stack, and each line's answer is written.
+// A sheet that is answered: its steps are done on a stack, and each line's answer is written. Where standard error can't be written either, there is nobody
+// left to tell.
 use edition::Edition;
 use lines::Follower;
-use standard::say;
 use std::io::{Read, Write};
 
 #[derive(Drop)]
@@ -22,6 +22,9 @@ struct Answering<W, E> {
 }
 
 impl<W: Write, E: Write> Follower for Answering<W, E> {
+    ghost going = { λ s. s.going };
+
+    #[tactic(auto, unfolding(reply::specs::Following::line_left))]
     fn follow_line(&mut self, line: &[u8]) {
         let mut answer = [0u8; 64];
         let mut complaint = [0u8; 256];
@@ -45,13 +48,12 @@ impl<W: Write, E: Write> Follower for Answering<W, E> {
             self.number = self.number.wrapping_add(1);
         }
         if self.out.write_all(text::first(&answer, done.out)).is_err() {
-            say(
-                &mut self.err,
-                b"calc: standard output cannot be written; nothing more was done\n",
-            );
+            let _ = self
+                .err
+                .write_all(b"calc: standard output cannot be written; nothing more was done\n");
             self.going = false;
         }
-        say(&mut self.err, text::first(&complaint, done.err));
+        let _ = self.err.write_all(text::first(&complaint, done.err));
     }
 
     fn goes_on(&self) -> bool {
@@ -59,7 +61,9 @@ impl<W: Write, E: Write> Follower for Answering<W, E> {
     }
 
     fn fail(&mut self) {
-        say(&mut self.err, b"calc: standard input cannot be read\n");
+        let _ = self
+            .err
+            .write_all(b"calc: standard input cannot be read\n");
         self.going = false;
     }
 }
@@ -85,9 +89,8 @@ pub(crate) fn answer<R: Read + Drop, W: Write + Drop, E: Write + Drop>(
     };
     lines::follow(&mut input, &mut line, &mut answering);
     if answering.owed {
-        say(
-            &mut answering.err,
-            b"calc: the last line could not be read, and was not typed again\n",
-        );
+        let _ = answering
+            .err
+            .write_all(b"calc: the last line could not be read, and was not typed again\n");
     }
 }

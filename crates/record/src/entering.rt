@@ -1,6 +1,6 @@
-// A sheet that is recorded: its steps are done on a stack, and each has its record.
+// A sheet that is recorded: its steps are done on a stack, and each has its record. Where standard error can't be written either, there is nobody left to
+// tell.
 use lines::Follower;
-use standard::say;
 use std::io::{Read, Write};
 
 #[derive(Drop)]
@@ -18,6 +18,8 @@ struct Entering<E> {
 }
 
 impl<E: Write> Follower for Entering<E> {
+    ghost going = { λ s. s.going };
+
     // After a line that can't be taken, what was read with it is passed over.
     fn follow_line(&mut self, line: &[u8]) {
         if !self.going {
@@ -38,7 +40,7 @@ impl<E: Write> Follower for Entering<E> {
                 self.end = recorded.end;
             }
             Err(said) => {
-                say(&mut self.err, text::first(&complaint, said));
+                let _ = self.err.write_all(text::first(&complaint, said));
                 self.going = false;
             }
         }
@@ -50,10 +52,9 @@ impl<E: Write> Follower for Entering<E> {
     }
 
     fn fail(&mut self) {
-        say(
-            &mut self.err,
-            b"record: standard input cannot be read; no recording was written\n",
-        );
+        let _ = self
+            .err
+            .write_all(b"record: standard input cannot be read; no recording was written\n");
         self.going = false;
     }
 }
@@ -81,9 +82,8 @@ pub(crate) fn record<R: Read + Drop, W: Write + Drop, E: Write + Drop>(
             .write_all(text::first(&entering.recording, entering.end))
             .is_err()
     {
-        say(
-            &mut entering.err,
-            b"record: standard output cannot be written; the recording is not whole\n",
-        );
+        let _ = entering
+            .err
+            .write_all(b"record: standard output cannot be written; the recording is not whole\n");
     }
 }

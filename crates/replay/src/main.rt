@@ -13,7 +13,6 @@
 // A step that is refused, and recorded so, agrees. The status is 0, 1 or 2 by that line.
 #![tactic(auto)]
 
-use standard::say;
 use std::io::Write;
 
 // As in `show`, written out: one function for both would take five arguments, three of them messages.
@@ -23,16 +22,15 @@ fn main(rt: HostRuntime) {
     let mut recording = [0u8; 64001];
     let mut out = [0u8; 64];
     let Ok(held) = standard::take_all(&mut rt.stdin(), &mut recording) else {
-        return say(
-            &mut rt.stderr(),
-            b"replay: standard input cannot be read; nothing was replayed\n",
-        );
+        let _ = rt
+            .stderr()
+            .write_all(b"replay: standard input cannot be read; nothing was replayed\n");
+        return;
     };
     let n = telling::print_replay(&mut stack, &recording[..held], &mut out);
     if rt.stdout().write_all(text::first(&out, n)).is_err() {
-        say(
-            &mut rt.stderr(),
-            b"replay: standard output cannot be written\n",
-        );
+        let _ = rt
+            .stderr()
+            .write_all(b"replay: standard output cannot be written\n");
     }
 }

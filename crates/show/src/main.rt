@@ -13,7 +13,6 @@
 // --help says what a recording is.
 #![tactic(auto)]
 
-use standard::say;
 use std::io::Write;
 
 fn main(rt: HostRuntime) {
@@ -23,16 +22,15 @@ fn main(rt: HostRuntime) {
     // Room for 4,000 records and the last two lines.
     let mut out = [0u8; 460000];
     let Ok(held) = standard::take_all(&mut rt.stdin(), &mut recording) else {
-        return say(
-            &mut rt.stderr(),
-            b"show: standard input cannot be read; nothing was shown\n",
-        );
+        let _ = rt
+            .stderr()
+            .write_all(b"show: standard input cannot be read; nothing was shown\n");
+        return;
     };
     let n = printing::print_show(&mut stack, &recording[..held], &mut out);
     if rt.stdout().write_all(text::first(&out, n)).is_err() {
-        say(
-            &mut rt.stderr(),
-            b"show: standard output cannot be written; not all was shown\n",
-        );
+        let _ = rt
+            .stderr()
+            .write_all(b"show: standard output cannot be written; not all was shown\n");
     }
 }

@@ -1,4 +1,4 @@
-// Standard input, for programs that take all of it before they begin, and standard error.
+// Standard input, for programs that take all of it before they begin.
 #![tactic(auto)]
 
 ghost use Rattle.std.specs.Prelude.{◌<◌, length, take, IfOk};
@@ -6,7 +6,7 @@ ghost use Rattle.std.specs.Io.{ReadsAtMost};
 ghost use Rattle.std.specs.Io.KnownBytes.{Consumes, IsAtEnd};
 
 use std::io;
-use std::io::{Read, Write};
+use std::io::Read;
 
 // How many bytes were taken: as many as the buffer holds, and what comes after that is not read; fewer only where the input ends. Each turn takes a byte at
 // least, so as many turns as the buffer has bytes are enough.
@@ -27,9 +27,4 @@ pub fn take_all<R: Read>(input: &mut R, buffer: &mut [u8]) -> io::Result<usize>
         }
     }
     Ok(held)
-}
-
-// Says what is wrong. Where standard error can't be written either, there is nobody to tell.
-pub fn say<E: Write>(err: &mut E, message: &[u8]) {
-    let _ = err.write_all(message);
 }

@@ -1,6 +1,5 @@
 // Lines out of the input, which comes in parts of any size. What is kept between parts is the line so far.
 use crate::cases;
-use standard::say;
 use std::io;
 use std::io::{Read, Write};
 use text::Page;
@@ -15,10 +14,9 @@ struct Answering<'a, W, E> {
 impl<'a, W: Write, E: Write> Answering<'a, W, E> {
     fn write(&mut self, answer: &[u8]) -> io::Result<()> {
         self.out.write_all(answer).inspect_err(|_| {
-            say(
-                &mut self.err,
-                b"vectors: standard output cannot be written\n",
-            )
+            let _ = self
+                .err
+                .write_all(b"vectors: standard output cannot be written\n");
         })
     }
 
@@ -51,10 +49,11 @@ impl<'a, W: Write, E: Write> Answering<'a, W, E> {
     // One read: how many bytes it got.
     fn take_part<R: Read>(&mut self, input: &mut R) -> io::Result<usize> {
         let mut part = [0u8; 4096];
-        let n = input.read(&mut part).inspect_err(|_| say(
-            &mut self.err,
-            b"vectors: standard input cannot be read\n",
-        ))?;
+        let n = input.read(&mut part).inspect_err(|_| {
+            let _ = self
+                .err
+                .write_all(b"vectors: standard input cannot be read\n");
+        })?;
         for byte in &part[..n] {
             self.take(*byte)?;
         }
