@@ -48,9 +48,9 @@ impl<W: Write, E: Write> Follower for Answering<W, E> {
             self.number = self.number.wrapping_add(1);
         }
         if self.out.write_all(text::first(&answer, done.out)).is_err() {
-            let _ = self
-                .err
-                .write_all(b"calc: standard output cannot be written; nothing more was done\n");
+            let _ = self.err.write_all(
+                b"calc: standard output cannot be written; nothing more was done\n",
+            );
             self.going = false;
         }
         let _ = self.err.write_all(text::first(&complaint, done.err));
@@ -61,9 +61,7 @@ impl<W: Write, E: Write> Follower for Answering<W, E> {
     }
 
     fn fail(&mut self) {
-        let _ = self
-            .err
-            .write_all(b"calc: standard input cannot be read\n");
+        let _ = self.err.write_all(b"calc: standard input cannot be read\n");
         self.going = false;
     }
 }
@@ -89,8 +87,8 @@ pub(crate) fn answer<R: Read + Drop, W: Write + Drop, E: Write + Drop>(
     };
     lines::follow(&mut input, &mut line, &mut answering);
     if answering.owed {
-        let _ = answering
-            .err
-            .write_all(b"calc: the last line could not be read, and was not typed again\n");
+        let _ = answering.err.write_all(
+            b"calc: the last line could not be read, and was not typed again\n",
+        );
     }
 }

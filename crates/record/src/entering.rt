@@ -52,9 +52,9 @@ impl<E: Write> Follower for Entering<E> {
     }
 
     fn fail(&mut self) {
-        let _ = self
-            .err
-            .write_all(b"record: standard input cannot be read; no recording was written\n");
+        let _ = self.err.write_all(
+            b"record: standard input cannot be read; no recording was written\n",
+        );
         self.going = false;
     }
 }
@@ -82,8 +82,8 @@ pub(crate) fn record<R: Read + Drop, W: Write + Drop, E: Write + Drop>(
             .write_all(text::first(&entering.recording, entering.end))
             .is_err()
     {
-        let _ = entering
-            .err
-            .write_all(b"record: standard output cannot be written; the recording is not whole\n");
+        let _ = entering.err.write_all(
+            b"record: standard output cannot be written; the recording is not whole\n",
+        );
     }
 }

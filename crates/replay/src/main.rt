@@ -22,9 +22,9 @@ fn main(rt: HostRuntime) {
     let mut recording = [0u8; 64001];
     let mut out = [0u8; 64];
     let Ok(held) = standard::take_all(&mut rt.stdin(), &mut recording) else {
-        let _ = rt
-            .stderr()
-            .write_all(b"replay: standard input cannot be read; nothing was replayed\n");
+        let _ = rt.stderr().write_all(
+            b"replay: standard input cannot be read; nothing was replayed\n",
+        );
         return;
     };
     let n = telling::print_replay(&mut stack, &recording[..held], &mut out);

@@ -22,15 +22,13 @@ fn main(rt: HostRuntime) {
     // Room for 4,000 records and the last two lines.
     let mut out = [0u8; 460000];
     let Ok(held) = standard::take_all(&mut rt.stdin(), &mut recording) else {
-        let _ = rt
-            .stderr()
-            .write_all(b"show: standard input cannot be read; nothing was shown\n");
+        let _ = rt.stderr().write_all(b"show: standard input cannot be read; nothing was shown\n");
         return;
     };
     let n = printing::print_show(&mut stack, &recording[..held], &mut out);
     if rt.stdout().write_all(text::first(&out, n)).is_err() {
-        let _ = rt
-            .stderr()
-            .write_all(b"show: standard output cannot be written; not all was shown\n");
+        let _ = rt.stderr().write_all(
+            b"show: standard output cannot be written; not all was shown\n",
+        );
     }
 }
