@@ -40,8 +40,8 @@ fn next_digit(edition: Edition, m: u32, n: u32) -> u64
 }
 
 // Of re-stacked numbers, each by a word with its sign on top, its mantissa, and its exponent byte as the low byte of a word. The compiler knows that an
-// operand's has nothing above it, and drops the remainder; of a byte it would not know that it stands in a whole register. The parts go side by side: as two structs a division took 126.5
-// instructions in place of 83.0.
+// operand's has nothing above it, and drops the remainder; of a byte it would not know that it stands in a whole register. The parts go side by side: where `dividing` handed on one
+// operand as a struct, a division took 126.5 instructions in place of 83.0.
 pub fn division(edition: Edition, s: u32, m: u32, e: u32, t: u32, n: u32, f: u32) -> Option<Number>
     ensures { result ≡ restacked_quotient edition (full_of (s / 2 ^ 31) (e % 256) m) (full_of (t / 2 ^ 31) (f % 256) n) }
 {

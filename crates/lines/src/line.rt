@@ -20,9 +20,18 @@ impl<'a> Line<'a> {
         ensures empty { held result ≡ (bytes.old, 0) }
         ensures returned { after_return result ≡ false }
     {
+        Line::after(bytes, 0, false)
+    }
+
+    // A line of which so many bytes have come, after a carriage return or not.
+    pub fn after(bytes: &'a mut [u8], len: usize, returned: bool) -> Line<'a>
+        ensures same_slice { result.page.bytes.ghost_name ≡ bytes.entry.ghost_name }
+        ensures come { held result ≡ (bytes.old, len) }
+        ensures returned { after_return result ≡ returned }
+    {
         Line {
-            page: Page::new(bytes),
-            returned: false,
+            page: Page::after(bytes, len),
+            returned,
         }
     }
 

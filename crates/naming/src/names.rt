@@ -23,6 +23,7 @@ const EDITIONS: [(&[u8], Edition); 2] = [
     (b"mended", Edition::Mended),
 ];
 
+// This and `edition_of`: one function over both tables would be generic over what a row has.
 pub fn literal_of(text: &[u8]) -> Option<u8>
     ensures { result ≡ literal_of text.now }
 {

@@ -42,7 +42,7 @@ pub fn b2_at(stack: &[u8], depth: usize, above: u8) -> u8
     stack[5 * (depth - nth) + 1]
 }
 
-// By a sum: of an array for `from_le_bytes` the compiler reads single bytes.
+// By a sum: of an array for `from_le_bytes`, of four bytes or of eight, the compiler read single bytes.
 fn half(b3: u8, b4: u8) -> u16
     ensures { result ≡ 256 * b4 + b3 }
 {

@@ -4,7 +4,7 @@ ghost use Rattle.wording.specs.Wording.{top_of, step_answer};
 
 use text::Page;
 
-// A space before each byte. What stands for no top is a line of its own here, and five zeros in a record.
+// A space before each byte. For no top ` -` stands here, and five zeros in a record.
 #[tactic(auto, unfolding(crate::specs::Wording::top_of))]
 fn put_top(page: &mut Page, top: &[u8])
     ensures { Puts page.old page.new (top_of top.now) }

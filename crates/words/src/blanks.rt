@@ -36,7 +36,7 @@ pub fn told(line: &[u8], number: u64) -> &[u8]
     &all[..comment(all)]
 }
 
-// A text without the blanks after it.
+// A text without the blanks after it: as `started`, from the other end.
 #[tactic(auto, using(crate::proofs::Laws::ended_kept, crate::proofs::Laws::ended_blank, crate::proofs::Laws::ended_empty))]
 fn ended(text: &[u8]) -> &[u8]
     ensures { result.now ≡ take (end_of text.now (length text.now)) text.now }
