@@ -55,8 +55,7 @@ fn short_route(stack: &[u8], depth: usize, flip: u32) -> Short
     )
 }
 
-// What is added to the second number's word flips its sign, for a difference, or is 0. One code adds and subtracts by it: made twice, it is too large to be put in,
-// and a subtraction took 113 instructions in place of 78.
+// What is added to the second number's word flips its sign, for a difference, or is 0. One code adds and subtracts by it.
 fn sum(stack: &mut [u8], depth: &mut usize, flip: u32) -> Report
     requires { (flip ≡ 0) ⊎ (flip ≡ 2 ^ 31) }
     ensures { operate_of Shipped stack.old depth.old (literal_of (flips flip)) ≡ (outcome (number_of result) depth.new, stack.new) }

@@ -1,15 +1,11 @@
 -- What `find` over a table gives.
-use Rattle.std.specs.Prelude.{◌≡◌, ℕ, Bool, true, false, cond, List, [], ◌∷◌, Option, Some, map}
+use Rattle.std.specs.Prelude.{◌≡◌, ℕ, Bool, true, false, cond, List, [], ◌∷◌, Option, Some}
 use Rattle.std.specs.Str.{bytes_eq}
 use Rattle.std.specs.List.{find}
 use Rattle.std.specs.Option.{option_map}
 use Rattle.std.proofs.Math.Path.{refl}
 use denote.Ref.{Bor}
-use Rattle.naming.specs.Names.{by_name}
-
--- the table's rows, by the names that they lend
-abbrev pub rows_of : {A : Type 0} → List (Bor (List ℕ) × A) → List (List ℕ × A)
-rows_of rows = map (λ r. (r.0.now, r.1)) rows
+use Rattle.naming.specs.Names.{by_name, rows_of}
 
 find_by_name : {A : Type 0} (s : List ℕ) (rows : List (Bor (List ℕ) × A)) → option_map (λ (r : Bor (List ℕ) × A). r.1) (find (λ r. bytes_eq r.0.now s) rows) ≡ by_name (rows_of rows) s
 unfolding by_name

@@ -1,6 +1,7 @@
 -- A literal by its name in the ROM's listing, and an edition by its name.
-use Rattle.std.specs.Prelude.{ℕ, cond, List, [], ◌∷◌, Option, Some, None}
+use Rattle.std.specs.Prelude.{ℕ, cond, List, [], ◌∷◌, Option, Some, None, map}
 use Rattle.std.specs.Str.{bytes_eq}
+use denote.Ref.{Bor}
 use Rattle.text.specs.Ascii.{ascii}
 use Rattle.edition.specs.declared.Edition.{Edition}
 use Rattle.edition.specs.declared.Edition.TheVariants.{Shipped, Mended}
@@ -9,6 +10,10 @@ use Rattle.edition.specs.declared.Edition.TheVariants.{Shipped, Mended}
 unfoldable pub by_name : {A : Type 0} → List (List ℕ × A) → List ℕ → Option A
 by_name [] s = None
 by_name (r ∷ rs) s = cond (bytes_eq r.0 s) (Some r.1) (by_name rs s)
+
+-- a table's rows, by the names that they lend
+abbrev pub rows_of : {A : Type 0} → List (Bor (List ℕ) × A) → List (List ℕ × A)
+rows_of rows = map (λ r. (r.0.now, r.1)) rows
 
 abbrev pub literals : List (List ℕ × ℕ)
 literals =

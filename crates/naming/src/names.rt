@@ -1,6 +1,6 @@
 // A literal by its name in the ROM's listing, and an edition by its name.
 ghost use Rattle.std.specs.Prelude.{◌≡◌};
-ghost use Rattle.naming.specs.Names.{literal_of, edition_of};
+ghost use Rattle.naming.specs.Names.{by_name, rows_of, literal_of, edition_of};
 
 use edition::Edition;
 
@@ -23,21 +23,25 @@ const EDITIONS: [(&[u8], Edition); 2] = [
     (b"mended", Edition::Mended),
 ];
 
-// This and `edition_of`: one function over both tables would be generic over what a row has.
+// What the first row has of which the text is the name.
+fn by_name<A: Copy>(rows: &[(&[u8], A)], text: &[u8]) -> Option<A>
+    ensures { result ≡ by_name (rows_of rows.now) text.now }
+{
+    rows.iter()
+        .find(|(name, _)| *name == text)
+        .map(|(_, named)| *named)
+}
+
+#[tactic(auto, unfolding(crate::specs::Names::literal_of))]
 pub fn literal_of(text: &[u8]) -> Option<u8>
     ensures { result ≡ literal_of text.now }
 {
-    LITERALS
-        .iter()
-        .find(|(name, _)| *name == text)
-        .map(|(_, literal)| *literal)
+    by_name(&LITERALS, text)
 }
 
+#[tactic(auto, unfolding(crate::specs::Names::edition_of))]
 pub fn edition_of(text: &[u8]) -> Option<Edition>
     ensures { result ≡ edition_of text.now }
 {
-    EDITIONS
-        .iter()
-        .find(|(name, _)| *name == text)
-        .map(|(_, edition)| *edition)
+    by_name(&EDITIONS, text)
 }

@@ -1,16 +1,15 @@
--- `literal_of` meets its contract: the first row of that name.
+-- `by_name` meets its contract: `find` stops at the first row of that name.
 use Rattle.std.proofs.Common.{rules, tests, bytes_eq, refl, ◌∙◌, ◌≡◌, ap}
 use Rattle.std.specs.Slice.Iter.{iter_rest}
 use Rattle.std.specs.Option.{option_map}
 use Rattle.std.proofs.lemmas.Iterator.{YieldsList-from_slice}
 use Rattle.std.proofs.lemmas.Iterator.Search.{find_from_yields_List}
-use Rattle.naming.specs.Names.{by_name, literal_of}
-use Rattle.naming.proofs.Laws.{rows_of, found_by_name}
-use Rattle.naming.proofs.names.literal_of.Goals as goal
+use Rattle.naming.specs.Names.{by_name, rows_of}
+use Rattle.naming.proofs.Laws.{found_by_name}
+use Rattle.naming.proofs.names.by_name.Goals as goal
 
 pub returns : goal.returns
-unfolding literal_of
-returns c =
+returns g c =
     let s = c.args.text.now in
     let rows = iter_rest c.iter.result in
     let found = find_from_yields_List (λ r. bytes_eq r.0.now s) _ _ c.find.result c.find.ensures.ran (YieldsList-from_slice rows refl) (λ x b q k. search (rules, tests)) in
