@@ -39,7 +39,9 @@ fn total(b: u8, first: u16, c: u8, other: u16, less: bool) -> Halves
             low,
         };
     }
-    let (low, carry) = first.overflowing_add(other);
+    let low = first.wrapping_add(other);
+    // Found from the wrapped sum.
+    let carry = low < first;
     Halves {
         byte: b.wrapping_add(c).wrapping_add(carry as u8),
         low,

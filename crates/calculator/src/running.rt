@@ -26,19 +26,18 @@ fn run_as<E: Rom>(stack: &mut [u8], depth: usize, literals: &[u8]) -> RunOutcome
         };
     }
     let mut after = depth;
-    for (position, literal) in literals.iter().enumerate() {
-        let report = operation::operate_as::<E, true>(stack, &mut after, *literal);
-        if !report.is_done() {
-            return RunOutcome {
-                report,
-                position,
-                depth: after,
-            };
+    let (report, stopped) = 'run: {
+        for (position, literal) in literals.iter().enumerate() {
+            let report = operation::operate_as::<E, true>(stack, &mut after, *literal);
+            if !report.is_done() {
+                break 'run (report, position);
+            }
         }
-    }
+        (Report::Done, literals.len())
+    };
     RunOutcome {
-        report: Report::Done,
-        position: literals.len(),
+        report,
+        position: stopped,
         depth: after,
     }
 }

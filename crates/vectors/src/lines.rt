@@ -7,19 +7,13 @@ use text::Page;
 #[derive(Drop)]
 struct Answering<'a, W, E> {
     line: Page<'a>,
+    // Kept between lines, so that its bytes are zeroed once.
+    page: Page<'a>,
     out: W,
     err: E,
 }
 
 impl<'a, W: Write, E: Write> Answering<'a, W, E> {
-    fn write(&mut self, answer: &[u8]) -> io::Result<()> {
-        self.out.write_all(answer).inspect_err(|_| {
-            let _ = self
-                .err
-                .write_all(b"vectors: standard output cannot be written\n");
-        })
-    }
-
     // A whole line. A stack of 17,000 bytes and the rest of its answer fit the page.
     // Not inlined: so large a frame is then made for a line, and not for each byte.
     #[inline(never)]
@@ -28,12 +22,16 @@ impl<'a, W: Write, E: Write> Answering<'a, W, E> {
         if let [b'\n'] | [b'#', ..] = line {
             return Ok(());
         }
-        let mut bytes = [0u8; 65536];
-        let mut page = Page::new(&mut bytes);
-        match cases::put_answer(&mut page, line) {
-            Some(()) => self.write(page.as_bytes()),
-            None => self.write(b"?\n"),
-        }
+        self.page.clear();
+        let written = match cases::put_answer(&mut self.page, line) {
+            Some(()) => self.out.write_all(self.page.as_bytes()),
+            None => self.out.write_all(b"?\n"),
+        };
+        written.inspect_err(|_| {
+            let _ = self
+                .err
+                .write_all(b"vectors: standard output cannot be written\n");
+        })
     }
 
     // A line feed ends a line, but one that is too long has lost it.
@@ -69,8 +67,10 @@ pub(crate) fn answer<R: Read + Drop, W: Write + Drop, E: Write + Drop>(
     err: E,
 ) -> io::Result<()> {
     let mut line = [0u8; 65536];
+    let mut page = [0u8; 65536];
     let mut answering = Answering {
         line: Page::new(&mut line),
+        page: Page::new(&mut page),
         out,
         err,
     };

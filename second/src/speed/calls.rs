@@ -3,6 +3,7 @@
 use crate::native::*;
 use crate::plain::{self, SHIPPED};
 use crate::Cell;
+use std::slice::{from_raw_parts, from_raw_parts_mut};
 
 pub struct Calls {
     pub operate: unsafe extern "C" fn(*mut u8, usize, *mut usize, u8) -> u8,
@@ -61,19 +62,8 @@ pub static EMPTY: Calls = Calls {
 // SAFETY of what follows: as for the C interface, every pointer is lent for the call with
 // its length, and buffers do not overlap.
 
-/// A lent slice, at a place of its own where the pointer is null: an export of ours tests each pointer for that.
-unsafe fn lent<'a>(bytes: *const u8, len: usize) -> &'a [u8] {
-    std::slice::from_raw_parts(if bytes.is_null() { SOMEWHERE as *const u8 } else { bytes }, len)
-}
-
-unsafe fn lent_mut<'a>(bytes: *mut u8, len: usize) -> &'a mut [u8] {
-    std::slice::from_raw_parts_mut(if bytes.is_null() { SOMEWHERE as *mut u8 } else { bytes }, len)
-}
-
-const SOMEWHERE: usize = 4096;
-
 unsafe extern "C" fn plain_operate(s: *mut u8, len: usize, depth: *mut usize, literal: u8) -> u8 {
-    plain::operate::<SHIPPED>(lent_mut(s, len), &mut *depth, literal)
+    plain::operate::<SHIPPED>(from_raw_parts_mut(s, len), &mut *depth, literal)
 }
 
 unsafe extern "C" fn plain_operate_in(
@@ -83,7 +73,7 @@ unsafe extern "C" fn plain_operate_in(
     depth: *mut usize,
     literal: u8,
 ) -> u8 {
-    plain::operate_in(edition, lent_mut(s, len), &mut *depth, literal)
+    plain::operate_in(edition, from_raw_parts_mut(s, len), &mut *depth, literal)
 }
 
 unsafe extern "C" fn plain_push(
@@ -93,8 +83,8 @@ unsafe extern "C" fn plain_push(
     number: *const u8,
     number_len: usize,
 ) -> u8 {
-    let number = lent(number, number_len);
-    plain::push(lent_mut(s, len), &mut *depth, number)
+    let number = from_raw_parts(number, number_len);
+    plain::push(from_raw_parts_mut(s, len), &mut *depth, number)
 }
 
 unsafe extern "C" fn plain_run(
@@ -105,8 +95,8 @@ unsafe extern "C" fn plain_run(
     literals_len: usize,
     position: *mut usize,
 ) -> u8 {
-    let literals = lent(literals, literals_len);
-    let stack = lent_mut(s, len);
+    let literals = from_raw_parts(literals, literals_len);
+    let stack = from_raw_parts_mut(s, len);
     plain::run::<SHIPPED>(stack, &mut *depth, literals, &mut *position)
 }
 
@@ -119,8 +109,8 @@ unsafe extern "C" fn plain_run_in(
     literals_len: usize,
     position: *mut usize,
 ) -> u8 {
-    let literals = lent(literals, literals_len);
-    let stack = lent_mut(s, len);
+    let literals = from_raw_parts(literals, literals_len);
+    let stack = from_raw_parts_mut(s, len);
     plain::run_in(edition, stack, &mut *depth, literals, &mut *position)
 }
 
@@ -130,7 +120,7 @@ unsafe extern "C" fn plain_view(
     depth: usize,
     start: *mut usize,
 ) -> usize {
-    match plain::view(lent(s, len), depth) {
+    match plain::view(from_raw_parts(s, len), depth) {
         Some(at) => {
             *start = at;
             5
@@ -147,7 +137,7 @@ unsafe extern "C" fn plain_cell(
     refused: *mut u8,
     value: *mut f64,
 ) -> u8 {
-    match plain::cell(report, lent(s, len), depth) {
+    match plain::cell(report, from_raw_parts(s, len), depth) {
         Cell::Refused(named) => {
             *refused = named;
             REFUSED
@@ -170,8 +160,8 @@ unsafe extern "C" fn plain_replay(
     field: *mut u8,
     depth: *mut usize,
 ) -> u8 {
-    let recording = lent(recording, recording_len);
-    let stack = lent_mut(s, len);
+    let recording = from_raw_parts(recording, recording_len);
+    let stack = from_raw_parts_mut(s, len);
     plain::replay(stack, recording, &mut *count, &mut *field, &mut *depth)
 }
 

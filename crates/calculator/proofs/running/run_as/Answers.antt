@@ -34,8 +34,8 @@ loop-position-preserved g c =
       omega arith,
     )
 
-pub returns : goal.returns
-returns g c =
+pub returns-after-loop-position : goal.returns-after-loop-position
+returns-after-loop-position g c =
     let l = c.loop-position in
     let e : l.position ≡ length c.args.literals.now = omega arith in
     sym l.invariant.0 ∙ at_end g.E.Rom.EDITION _ _ _ _ e ∙ ap (λ (n : ℕ). (run_outcome 0 n l.after, l.stack)) e
