@@ -80,7 +80,7 @@ module _ (s : List ℕ) (d number : ℕ) (line : List ℕ) (t : Text) (err : Lis
   unfolding line_recorded
   complaint_whole = whole why
 
-  -- nothing is said of a line exactly where it is taken, by which `record` goes
+  -- nothing is said of a line exactly where it is taken, which is where `record` has an Ok
   none_said : (w : Option Why) → is_taken w ≡ true → (by w).1.1 ≡ 0
   unfolding recorded_by is_taken
   none_said None e = refl
