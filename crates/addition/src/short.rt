@@ -66,7 +66,8 @@ pub fn short_sum(b: u8, first: u16, c: u8, other: u16, less: bool) -> Short
         → Says less (number 0 x) (number 0 y) result }
 {
     // One more than 00 or FF is 1 or 0, and one question asks both.
-    if (b.wrapping_add(1) | c.wrapping_add(1)) > 1 {
+    let forms = b.wrapping_add(1) | c.wrapping_add(1);
+    if forms > 1 {
         return Short::Malformed;
     }
     let sum = total(b, first, c, other, less);

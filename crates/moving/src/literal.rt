@@ -47,7 +47,8 @@ pub fn delete<const IN_LOOP: bool>(stack: &[u8], depth: &mut usize) -> Report
 }
 
 // Whether there was a top, and room. The stack must have what the literal leaves: in a call that is asked of the depth after it, which wraps to 0 where it would
-// be too large for any stack.
+// be too large for any stack. Inlined before it is optimized by itself, the depth after it is one sum for the question and for what is stored.
+#[inline(always)]
 fn copies<const IN_LOOP: bool>(stack: &mut [u8], depth: usize) -> bool
     ensures { (not result ≡ lacking stack.old (depth + 1) 2) × (stack.new ≡ copied_of stack.old depth) }
 {

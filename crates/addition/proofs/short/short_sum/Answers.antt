@@ -7,15 +7,15 @@ use Rattle.addition.specs.SecondHalves.{second_halves, added_halves}
 use Rattle.addition.specs.SignBytes.{Says, seventeen_of, Formed}
 use Rattle.addition.proofs.SignBytesLaws.{one_unformed, both_formed, answer_stored, answer_beyond, answer_exact}
 use Rattle.addition.proofs.short.short_sum.Goals as goal
-use Rattle.addition.proofs.short.short_sum.Goals.{After-total-sum, Else-b-c-gt1, Else-sum-lt2}
+use Rattle.addition.proofs.short.short_sum.Goals.{After-total-sum, Else-forms-gt1, Else-sum-lt2}
 
 -- one more than a sign byte, as it is tested
 byte : (b w : ℕ) → w / 2 ^ 24 ≡ b → (b + 1) % 256 ≡ (w / 2 ^ 24 + 1) % 256
 byte b w i = ap (λ (n : ℕ). (n + 1) % 256) (sym i)
 
-formed : (c : Else-b-c-gt1) (x y : ℕ) → (let a = c.args in x / 2 ^ 24 ≡ a.b → y / 2 ^ 24 ≡ a.c → Formed x y)
+formed : (c : Else-forms-gt1) (x y : ℕ) → (let a = c.args in x / 2 ^ 24 ≡ a.b → y / 2 ^ 24 ≡ a.c → Formed x y)
 formed c x y i p =
-    both_formed x y _ _ (omega arith) (omega arith) (byte _ x i) (byte _ y p) c.if-b-c-gt1.false
+    both_formed x y _ _ (omega arith) (omega arith) (byte _ x i) (byte _ y p) c.if-forms-gt1.false
 
 -- what `total` made, by the words
 summed : (c : After-total-sum) (x y : ℕ) → (let a = c.args in
@@ -40,9 +40,9 @@ beyond : (c : Else-sum-lt2) (x y : ℕ) → (let a = c.args in
 beyond c x y i j p q =
     answer_beyond c.args.less x y (omega arith) (omega arith) (formed c.before.before.before x y i p) (large c x y i j p q)
 
-pub returns-then-b-c-gt1 : goal.returns-then-b-c-gt1
-returns-then-b-c-gt1 c x y i j p q =
-    one_unformed x y _ _ (omega arith) (omega arith) (byte _ x i) (byte _ y p) c.if-b-c-gt1.true _
+pub returns-then-forms-gt1 : goal.returns-then-forms-gt1
+returns-then-forms-gt1 c x y i j p q =
+    one_unformed x y _ _ (omega arith) (omega arith) (byte _ x i) (byte _ y p) c.if-forms-gt1.true _
 
 pub returns-then-sum-lt2 : goal.returns-then-sum-lt2
 returns-then-sum-lt2 c x y i j p q =
